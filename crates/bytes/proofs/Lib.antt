@@ -1,0 +1,3 @@
+pub mod Hexed
+pub mod Overs
+mod Steps

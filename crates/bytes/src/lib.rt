@@ -1,0 +1,3 @@
+// Bytes: their parts, and the ways in which they are written as text.
+pub mod hex;
+pub mod span;

@@ -1,0 +1,5 @@
+mod Seeking
+mod Telling
+mod Finding
+mod Reading
+mod Writing

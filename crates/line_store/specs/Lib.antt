@@ -1,0 +1,4 @@
+pub mod Texts
+pub mod Marked
+pub mod Held
+pub mod Opening

@@ -1,0 +1,63 @@
+-- Rows over a block, one by one.
+use Prim.Native.Nat.{ℕ, _+_, _-_, _≤_, _<_}
+use mathlib.Core.Path.{_≡_, refl, sym, ap, _∙_}
+use mathlib.Core.Bool.{true, false, cond}
+use mathlib.Core.List.{List, [], _∷_, _++_}
+use mathlib.Core.Logic.{⊎-elim}
+use lib.ListN.{length, take, drop, getD}
+use native.Mathlib.Omega.{arith}
+use Rattle.std.proofs.shelf.Tests.{cases-bool}
+use Rattle.std.proofs.shelf.Lists.{append-assoc, length-append, length-drop, length-take-le, take-append-le, drop-append-le, take-append-drop, take-at, drop-at, drop-drop, take-all, at-drop-more, at-drop-all}
+use Rattle.std.proofs.shelf.Equals.{sameBytes-decides}
+use Rattle.std.specs.shelf.Text.{sameBytes}
+use Rattle.std.specs.declared.option.Option.{Option}
+use Rattle.std.specs.declared.option.Option.the-variants.{Some, None}
+use Rattle.bytes.specs.Buffers.{over}
+use Rattle.bytes.specs.declared.span.Span.{Span}
+use Rattle.store.specs.Entries.{Entry, lookUp}
+use Rattle.table_store.specs.Blocks.{entriesIn, size, part, Holds}
+use Rattle.table_store.specs.declared.table.Row.{Row}
+
+-- rows tell of the front of the block that they take up
+entries-front : (rs : List Row) (front rest : List ℕ) → size rs ≤ length front → entriesIn rs (front ++ rest) ≡ entriesIn rs front
+entries-front [] front rest h = refl
+entries-front (r ∷ rs) front rest h =
+    let n = take-append-le (r .name) front rest (omega arith) in
+    let d = drop-append-le (r .name) front rest (omega arith) in
+    let ln = length-drop (r .name) front in
+    let b : take (r .body) (drop (r .name) (front ++ rest)) ≡ take (r .body) (drop (r .name) front) = ap (take (r .body)) d ∙ take-append-le (r .body) (drop (r .name) front) rest (omega arith) in
+    let t : entriesIn rs (drop (r .name + r .body) (front ++ rest)) ≡ entriesIn rs (drop (r .name + r .body) front) =
+    ap (entriesIn rs) (drop-append-le (r .name + r .body) front rest (omega arith)) ∙ entries-front rs (drop (r .name + r .body) front) rest (omega (arith, length-drop (r .name + r .body) front)) in
+    ap (λ z. (z, take (r .body) (drop (r .name) (front ++ rest))) ∷ entriesIn rs (drop (r .name + r .body) (front ++ rest))) n
+    ∙ ap (λ z. (take (r .name) front, z) ∷ entriesIn rs (drop (r .name + r .body) (front ++ rest))) b
+    ∙ ap (λ z. (take (r .name) front, take (r .body) (drop (r .name) front)) ∷ z) t
+
+entries-append : (rs qs : List Row) (block : List ℕ) → entriesIn (rs ++ qs) block ≡ entriesIn rs block ++ entriesIn qs (drop (size rs) block)
+entries-append [] qs block = refl
+entries-append (r ∷ rs) qs block =
+    ap (λ z. (take (r .name) block, take (r .body) (drop (r .name) block)) ∷ z)
+    (entries-append rs qs (drop (r .name + r .body) block) ∙ ap (λ z. entriesIn rs (drop (r .name + r .body) block) ++ entriesIn qs z) (drop-drop (size rs) (r .name + r .body) block))
+
+pub size-append : (rs qs : List Row) → size (rs ++ qs) ≡ size rs + size qs
+size-append [] qs = omega arith
+size-append (r ∷ rs) qs = omega (arith, size-append rs qs)
+
+-- one entry more, behind those that are there
+pub entries-push : (rs : List Row) (r : Row) (block name body : List ℕ) (at : ℕ) → at ≡ size rs → at ≤ length block → r .name ≡ length name → r .body ≡ length body
+    → entriesIn (rs ++ r ∷ []) (over ((take at block ++ name) ++ body) block) ≡ entriesIn rs block ++ (name, body) ∷ []
+entries-push rs r block name body at e h en eb =
+    let front = take at block in
+    let done = (front ++ name) ++ body in
+    let rest = drop (length done) block in
+    let lf : length front ≡ at = length-take-le at block h in
+    let new : over done block ≡ front ++ (name ++ (body ++ rest)) = append-assoc (front ++ name) body rest ∙ append-assoc front name (body ++ rest) in
+    let old : entriesIn rs block ≡ entriesIn rs front = ap (entriesIn rs) (sym (take-append-drop at block)) ∙ entries-front rs front (drop at block) (omega arith) in
+    let dr : drop (size rs) (front ++ (name ++ (body ++ rest))) ≡ name ++ (body ++ rest) = drop-at front (name ++ (body ++ rest)) (size rs) (lf ∙ e) in
+    let n : take (r .name) (name ++ (body ++ rest)) ≡ name = take-at name (body ++ rest) (r .name) (sym en) in
+    let b : take (r .body) (drop (r .name) (name ++ (body ++ rest))) ≡ body = ap (take (r .body)) (drop-at name (body ++ rest) (r .name) (sym en)) ∙ take-at body rest (r .body) (sym eb) in
+    ap (entriesIn (rs ++ r ∷ [])) new
+    ∙ entries-append rs (r ∷ []) (front ++ (name ++ (body ++ rest)))
+    ∙ ap (λ z. z ++ entriesIn (r ∷ []) (drop (size rs) (front ++ (name ++ (body ++ rest))))) (entries-front rs front (name ++ (body ++ rest)) (omega arith) ∙ sym old)
+    ∙ ap (λ z. entriesIn rs block ++ entriesIn (r ∷ []) z) dr
+    ∙ ap (λ z. entriesIn rs block ++ (z, take (r .body) (drop (r .name) (name ++ (body ++ rest)))) ∷ []) n
+    ∙ ap (λ z. entriesIn rs block ++ (name, z) ∷ []) b
