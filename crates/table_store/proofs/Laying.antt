@@ -61,3 +61,54 @@ entries-push rs r block name body at e h en eb =
     ∙ ap (λ z. entriesIn rs block ++ entriesIn (r ∷ []) z) dr
     ∙ ap (λ z. entriesIn rs block ++ (z, take (r .body) (drop (r .name) (name ++ (body ++ rest)))) ∷ []) n
     ∙ ap (λ z. entriesIn rs block ++ (name, z) ∷ []) b
+
+-- a row, where one is read past the end
+abbrev pub blank : Row
+blank = record { name = 0; body = 0 }
+
+-- what is left of the rows from `i` on, in the block from `at` on, looks up as the whole
+pub record Left (rows : List Row) (block name : List ℕ) (at i : ℕ) : Type 0 where
+  pub within : at + size (drop i rows) ≤ length block
+  pub looks : lookUp (entriesIn (drop i rows) (drop at block)) name ≡ lookUp (entriesIn rows block) name
+
+pub left-none : (rows : List Row) (block name : List ℕ) → size rows ≤ length block → Left rows block name 0 0
+left-none rows block name h = record { within = omega arith; looks = refl }
+
+module _ (rows : List Row) (block name : List ℕ) (at i start end : ℕ) (left : Left rows block name at i) (h : i < length rows)
+    (es : start ≡ at + getD rows i blank .name) (ee : end ≡ start + getD rows i blank .body) where
+  row : Row
+  row = getD rows i blank
+
+  pub row-within : end + size (drop (i + 1) rows) ≤ length block
+  row-within = omega (arith, left .within, at-drop-more size rows i blank h)
+
+  here : lookUp (entriesIn rows block) name ≡ cond (sameBytes (take (start - at) (drop at block)) name) (Some (part block (record { start = start; end = end }))) (lookUp (entriesIn (drop (i + 1) rows) (drop end block)) name)
+  here =
+      let r = getD rows i blank in
+      let n : r .name ≡ start - at = omega arith in
+      let b : take (r .body) (drop (r .name) (drop at block)) ≡ take (end - start) (drop start block) =
+      ap (take (r .body)) (drop-drop (r .name) at block ∙ ap (λ z. drop z block) (sym es)) ∙ ap (λ z. take z (drop start block)) (omega arith) in
+      let t : drop (r .name + r .body) (drop at block) ≡ drop end block = drop-drop (r .name + r .body) at block ∙ ap (λ z. drop z block) (omega arith) in
+      sym (left .looks) ∙ at-drop-more (λ z. lookUp (entriesIn z (drop at block)) name) rows i blank h
+      ∙ ap (λ z. cond (sameBytes (take z (drop at block)) name) (Some (take (r .body) (drop (r .name) (drop at block)))) (lookUp (entriesIn (drop (i + 1) rows) (drop (r .name + r .body) (drop at block))) name)) n
+      ∙ ap (λ z. cond (sameBytes (take (start - at) (drop at block)) name) (Some z) (lookUp (entriesIn (drop (i + 1) rows) (drop (r .name + r .body) (drop at block))) name)) b
+      ∙ ap (λ z. cond (sameBytes (take (start - at) (drop at block)) name) (Some (take (end - start) (drop start block))) (lookUp (entriesIn (drop (i + 1) rows) z) name)) t
+
+  pub row-found : take (start - at) (drop at block) ≡ name → Holds block (lookUp (entriesIn rows block) name) (record { start = start; end = end })
+  row-found t = record {
+    body = here ∙ ap (λ z. cond z (Some (part block (record { start = start; end = end }))) (lookUp (entriesIn (drop (i + 1) rows) (drop end block)) name)) (sameBytes-decides _ _ .1 t);
+    order = omega arith;
+    within = omega (arith, row-within);
+  }
+
+  pub row-passed : (take (start - at) (drop at block) ≡ name → ⊥) → Left rows block name end (i + 1)
+  row-passed f = record {
+    within = row-within;
+    looks = ⊎-elim
+        (λ t. absurd (f (sameBytes-decides _ _ .0 t)))
+        (λ t. sym (here ∙ ap (λ z. cond z (Some (part block (record { start = start; end = end }))) (lookUp (entriesIn (drop (i + 1) rows) (drop end block)) name)) t))
+        (cases-bool (sameBytes (take (start - at) (drop at block)) name));
+  }
+
+pub left-all : (rows : List Row) (block name : List ℕ) (at i : ℕ) → Left rows block name at i → length rows ≤ i → lookUp (entriesIn rows block) name ≡ None
+left-all rows block name at i left h = sym (left .looks) ∙ at-drop-all (λ z. lookUp (entriesIn z (drop at block)) name) rows i h

@@ -9,7 +9,7 @@ ghost use Rattle.std.specs.declared.option.Option.the-variants.{None};
 ghost use Rattle.bytes.specs.Buffers.{over};
 ghost use Rattle.store.specs.Meanings.{isName, with};
 ghost use Rattle.store.specs.Entries.{lookUp};
-ghost use Rattle.table_store.specs.Blocks.{entriesIn, size, Holds};
+ghost use Rattle.table_store.specs.Blocks.{entriesIn, size, part, Holds};
 ghost use Rattle.table_store.specs.Held.{rowsOf, entriesOf, meaningOf, roomIn, Sound, Added};
 use crate::table::Row;
 use crate::table::Table;
@@ -30,6 +30,18 @@ fn find(rows: &[Row], block: &[u8], name: &[u8]) -> Option<Span>
         at = end;
     }
     None
+}
+
+// Copies the part at the span to the start of `out`, and gives its length.
+pub(crate) fn copy_out(block: &[u8], span: Span, out: &mut [u8]) -> usize
+    requires { ⌜ (span .start ≤ span .end) × (span .end ≤ length (now block)) × (length (part (now block) span) ≤ length (now out)) ⌝ }
+    ensures long { λ r. ⌜ r ≡ length (part (now (block .entry)) span) ⌝ }
+    ensures after { λ _. ⌜ now (out .exit) ≡ over (part (now (block .entry)) span) (now (out .entry)) ⌝ }
+{
+    let Span { start, end } = span;
+    let long = end - start;
+    out[0..long].copy_from_slice(&block[start..end]);
+    long
 }
 
 // Copies name and body to `at`, and gives the place behind them.

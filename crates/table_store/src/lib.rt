@@ -66,9 +66,7 @@ pub impl<'a> Store for TableStore<'a> as TableStoreStore {
         let Some(body) = self.table.find(name) else {
             return Err(GetRefusal::Absent);
         };
-        let long = body.end - body.start;
-        out[0..long].copy_from_slice(&self.table.block[body.start..body.end]);
-        Ok(long)
+        Ok(edit::copy_out(self.table.block, body, out))
     }
 
     fn file(&mut self, name: &[u8], body: &[u8]) -> Result<(), FileRefusal>
