@@ -11,7 +11,11 @@ fn digit(nibble: u8) -> u8
     requires { ⌜ nibble < 16 ⌝ }
     ensures { λ r. ⌜ r ≡ hexDigit nibble ⌝ }
 {
-    if nibble < 10 { b'0' + nibble } else { b'a' + (nibble - 10) }
+    if nibble < 10 {
+        b'0' + nibble
+    } else {
+        b'a' + (nibble - 10)
+    }
 }
 
 // The number of a digit, 0 of anything else.

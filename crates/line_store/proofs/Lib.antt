@@ -3,3 +3,4 @@ mod Telling
 mod Finding
 mod Reading
 mod Writing
+mod Listing

@@ -53,7 +53,7 @@ module _ (t name body : List ℕ) (at space start feed : ℕ) (fits : feed < len
   line-written u e =
       ap (λ z. set z feed 0x0a) e ∙ over-set (((take at t ++ hex name) ++ 0x20 ∷ []) ++ hex body) t feed 0x0a body-put-long fits
       ∙ ap (λ z. over z t) (append-assoc ((take at t ++ hex name) ++ 0x20 ∷ []) (hex body) (0x0a ∷ []) ∙ append-assoc (take at t ++ hex name) (0x20 ∷ []) (hex body ++ 0x0a ∷ [])
-          ∙ append-assoc (take at t) (hex name) (0x20 ∷ (hex body ++ 0x0a ∷ [])))
+      ∙ append-assoc (take at t) (hex name) (0x20 ∷ (hex body ++ 0x0a ∷ [])))
 
 -- the text once a line is behind it
 pub text-grown : (t out name body : List ℕ) (at end : ℕ) → at ≤ length t → end ≡ at + (2 * (length name + length body) + 2)

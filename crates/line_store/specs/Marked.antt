@@ -4,12 +4,14 @@ use mathlib.Core.Path.{_≡_}
 use mathlib.Core.Bool.{true}
 use mathlib.Core.List.{List}
 use lib.ListN.{length, take, drop}
-use Rattle.std.specs.Options.{isSome}
+use lib.Dec.{ltb}
+use Rattle.std.specs.Options.{isSome, Cases}
 use Rattle.std.specs.declared.option.Option.{Option}
+use Rattle.bytes.specs.Buffers.{over}
 use Rattle.bytes.specs.Hex.{hex}
 use Rattle.store.specs.Meanings.{bodyOf}
-use Rattle.store.specs.Entries.{Entry, isEntry}
-use Rattle.line_store.specs.Texts.{lineThen}
+use Rattle.store.specs.Entries.{Entry, isEntry, nameAt}
+use Rattle.line_store.specs.Texts.{lineThen, textOf}
 use Rattle.line_store.specs.declared.lines.Marks.{Marks}
 
 -- the body that was found stands between the space and the line feed
@@ -32,3 +34,14 @@ pub record ALine (text : List ℕ) (at : ℕ) (w : Marks) : Type 0 where
 -- no line of an entry begins at `at`
 abbrev pub NoLine : List ℕ → ℕ → Type 0
 NoLine text at = (e : Entry) (rest : List ℕ) → drop at text ≡ lineThen e rest → isEntry e ≡ true → ⊥
+
+-- the name of the entry at the index is written over the buffer, if there is one
+pub record Named (es : List Entry) (index : ℕ) (found : Option ℕ) (before after : List ℕ) : Type 0 where
+  pub there : isSome found ≡ ltb index (length es)
+  pub long : Cases found (length es ≤ index) (λ k. k ≡ length (nameAt es index))
+  pub after-is : after ≡ over (nameAt es index) before
+
+-- the line of the entry at the index begins at `at`; past the last one that is the text's end
+pub record Starts (text : List ℕ) (index at : ℕ) : Type 0 where
+  pub within : at ≤ length text
+  pub lines : (es : List Entry) → textOf es ≡ text → textOf (drop index es) ≡ drop at text

@@ -10,9 +10,9 @@ ghost use Rattle.std.specs.declared.option.Option.the-variants.{None};
 ghost use Rattle.bytes.specs.Buffers.{over, areBytes};
 ghost use Rattle.bytes.specs.Hex.{hex as hexOf};
 ghost use Rattle.store.specs.Meanings.{isName, with};
-ghost use Rattle.store.specs.Entries.{Entry, lookUp};
+ghost use Rattle.store.specs.Entries.{Entry, lookUp, sound};
 ghost use Rattle.line_store.specs.Texts.{lineThen, textOf, Told};
-ghost use Rattle.line_store.specs.Marked.{Holds};
+ghost use Rattle.line_store.specs.Marked.{Holds, Named};
 ghost use Rattle.line_store.specs.Held.{textIn, meaningOf, lineSize, roomIn, Sound, Appended};
 ghost use Rattle.line_store.specs.Opening.{Refuses, Opens};
 use crate::lines::Lines;
@@ -45,6 +45,21 @@ pub(crate) fn copy_body(text: &[u8], marks: Marks, out: &mut [u8]) -> usize
     let long = (end - start) / 2;
     hex::read(&mut out[0..long], &text[start..end]);
     long
+}
+
+// Copies the name of the line at `index` to the start of `out`, and gives its length.
+pub(crate) fn copy_name(text: &[u8], index: usize, out: &mut [u8]) -> Option<usize>
+    requires { ⌜ (Told (now text)) × (96 ≤ length (now out)) ⌝ }
+    ensures { λ r. ⌜ ((es : List Entry) → textOf es ≡ now (text .entry) → sound es ≡ true → Named es index r (now (out .entry)) (now (out .exit))) ⌝ }
+{
+    let at = scan::line_start(text, index);
+    if at == text.len() {
+        return None;
+    }
+    let space = scan::seek(text, at, b' ');
+    let long = (space - at) / 2;
+    hex::read(&mut out[0..long], &text[at..space]);
+    Some(long)
 }
 
 // Writes bytes in hexadecimal behind what was written up to `at`, and gives the place behind them.

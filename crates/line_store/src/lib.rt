@@ -8,7 +8,7 @@ ghost use Rattle.std.specs.Options.{isSome};
 ghost use Rattle.std.specs.Results.{isOk};
 ghost use Rattle.store.specs.Meanings.{Lawful, with};
 ghost use Rattle.store.specs.Answers.{fileCode, fileAnswer};
-ghost use Rattle.line_store.specs.Texts.{Tells, isText};
+ghost use Rattle.line_store.specs.Texts.{Tells, entriesOf, isText};
 ghost use Rattle.line_store.specs.Held.{textIn, meaningOf, roomIn, Appended};
 ghost use Rattle.line_store.specs.Opening.{openNumber, Opens};
 
@@ -20,6 +20,8 @@ use lines::Lines;
 use lines::OpenRefusal;
 use store::Store;
 use store::limits;
+use store::limits::NAME_MAX;
+use store::listing::Listing;
 use store::refusal::FileRefusal;
 use store::refusal::GetRefusal;
 
@@ -107,5 +109,13 @@ pub impl<'a> Store for LineStore<'a> as LineStoreStore {
         }
         self.lines.add(name, body);
         Ok(())
+    }
+}
+
+pub impl<'a> Listing for LineStore<'a> as LineStoreListing {
+    ghost entries = { λ s. entriesOf (textIn (s .lines)) };
+
+    fn name_at(&self, index: usize, out: &mut [u8; NAME_MAX]) -> Option<usize> {
+        edit::copy_name(self.text(), index, out)
     }
 }

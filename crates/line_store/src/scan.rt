@@ -11,7 +11,7 @@ ghost use Rattle.bytes.specs.Hex.{hex as hexOf, isHex, unhex};
 ghost use Rattle.store.specs.Meanings.{isName, isBody};
 ghost use Rattle.store.specs.Entries.{Entry, lookUp};
 ghost use Rattle.line_store.specs.Texts.{textOf, upTo, Told};
-ghost use Rattle.line_store.specs.Marked.{Holds, ALine, NoLine};
+ghost use Rattle.line_store.specs.Marked.{Holds, ALine, NoLine, Starts};
 use crate::lines::Marks;
 use bytes::hex;
 use store::limits;
@@ -118,4 +118,21 @@ pub(crate) fn is_text(text: &[u8]) -> bool
         at = line.feed + 1;
     }
     true
+}
+
+// Where the line at `index` begins, or the text's end.
+pub(crate) fn line_start(text: &[u8], index: usize) -> usize
+    requires { ⌜ ((es : List Entry) × (textOf es ≡ now text)) ⌝ }
+    ensures { λ r. ⌜ Starts (now (text .entry)) index r ⌝ }
+{
+    let mut at = 0;
+    for _i in 0..index {
+        if at == text.len() {
+            return at;
+        }
+        let space = seek(text, at, b' ');
+        let feed = seek(text, space + 1, b'\n');
+        at = feed + 1;
+    }
+    at
 }

@@ -1,10 +1,10 @@
 -- Laws of lists of entries and of the look-up in them.
-use Prim.Native.Nat.{ℕ, _≤_}
+use Prim.Native.Nat.{ℕ, zero, suc, _≤_, _<_}
 use mathlib.Core.Path.{_≡_, refl, sym, ap, fun-ext, _∙_}
 use mathlib.Core.Bool.{Bool, true, false, cond, _&&_, not}
 use mathlib.Core.List.{List, [], _∷_, _++_}
 use mathlib.Core.Logic.{⊎-elim}
-use lib.ListN.{length}
+use lib.ListN.{length, getD}
 use lib.Dec.{leb}
 use native.Mathlib.Omega.{arith}
 use Rattle.std.proofs.shelf.Tests.{and-parts, and-from, lt-ltb, leb-true, not-true, not-from-false, both-ways, cases-bool}
@@ -16,7 +16,7 @@ use Rattle.std.specs.declared.option.Option.{Option}
 use Rattle.std.specs.declared.option.Option.the-variants.{Some, None}
 use Rattle.bytes.specs.Buffers.{areBytes}
 use Rattle.store.specs.Meanings.{Meaning, Lawful, allowed, isVisible, allVisible, isName, isBody, with, bodyOf}
-use Rattle.store.specs.Entries.{Entry, isEntry, lookUp, sound}
+use Rattle.store.specs.Entries.{Entry, isEntry, lookUp, sound, nameAt}
 use Rattle.store.specs.Answers.{getAnswer}
 
 visible-bytes : (xs : List ℕ) → allVisible xs ≡ true → areBytes xs ≡ true
@@ -151,3 +151,17 @@ get-space space name e = ⊎-elim
     (λ t. leb-true _ _ t)
     (λ f. let z : _≡_ {A = ℕ} 0 1 = e ∙ ap (λ z. cond z (cond (isName name) 0 9) 1) f in absurd (omega arith))
     (cases-bool (leb 32768 space))
+
+-- the entry at an index of a sound list is one
+pub sound-at : (es : List Entry) (i : ℕ) → sound es ≡ true → i < length es → isEntry (getD es i ([], [])) ≡ true
+sound-at [] i s h = absurd (omega arith)
+sound-at (e ∷ es) zero s h = and-parts (isEntry e) _ s .0
+sound-at (e ∷ es) (suc i) s h =
+    let a = and-parts (isEntry e) (not (isSome (lookUp es (e .0))) && sound es) s in
+    sound-at es i (and-parts (not (isSome (lookUp es (e .0)))) (sound es) (a .1) .1) (omega arith)
+
+pub name-at-short : (es : List Entry) (i : ℕ) → sound es ≡ true → i < length es → (length (nameAt es i) ≤ 96) × (areBytes (nameAt es i) ≡ true)
+name-at-short es i s h =
+    let e = getD es i ([], []) in
+    let n = and-parts (isName (e .0)) (isBody (e .1) && areBytes (e .1)) (sound-at es i s h) .0 in
+    (name-short (e .0) n, name-bytes (e .0) n)

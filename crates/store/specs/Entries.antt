@@ -2,6 +2,7 @@
 use Prim.Native.Nat.{ℕ}
 use mathlib.Core.Bool.{Bool, true, cond, _&&_, not}
 use mathlib.Core.List.{List, [], _∷_}
+use lib.ListN.{getD}
 use Rattle.std.specs.Options.{isSome}
 use Rattle.std.specs.shelf.Text.{sameBytes}
 use Rattle.std.specs.declared.option.Option.the-variants.{Some, None}
@@ -23,3 +24,7 @@ lookUp (e ∷ es) n = cond (sameBytes (e .0) n) (Some (e .1)) (lookUp es n)
 abbrev pub sound : List Entry → Bool
 sound [] = true
 sound (e ∷ es) = isEntry e && (not (isSome (lookUp es (e .0))) && sound es)
+
+-- the name of the entry at an index, no bytes past the last one
+abbrev pub nameAt : List Entry → ℕ → List ℕ
+nameAt es i = getD es i ([], []) .0

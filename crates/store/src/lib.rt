@@ -11,6 +11,7 @@ ghost use Rattle.store.specs.Meanings.{Meaning, with, bodyOf, Lawful};
 ghost use Rattle.store.specs.Answers.{getCode, getAnswer, fileCode, fileAnswer};
 
 pub mod limits;
+pub mod listing;
 pub mod refusal;
 
 use refusal::FileRefusal;

@@ -1,5 +1,5 @@
 -- Rows over a block, one by one.
-use Prim.Native.Nat.{ℕ, _+_, _-_, _≤_, _<_}
+use Prim.Native.Nat.{ℕ, zero, suc, _+_, _-_, _≤_, _<_}
 use mathlib.Core.Path.{_≡_, refl, sym, ap, _∙_}
 use mathlib.Core.Bool.{true, false, cond}
 use mathlib.Core.List.{List, [], _∷_, _++_}
@@ -7,14 +7,14 @@ use mathlib.Core.Logic.{⊎-elim}
 use lib.ListN.{length, take, drop, getD}
 use native.Mathlib.Omega.{arith}
 use Rattle.std.proofs.shelf.Tests.{cases-bool}
-use Rattle.std.proofs.shelf.Lists.{append-assoc, length-append, length-drop, length-take-le, take-append-le, drop-append-le, take-append-drop, take-at, drop-at, drop-drop, take-all, at-drop-more, at-drop-all}
+use Rattle.std.proofs.shelf.Lists.{append-assoc, length-append, length-drop, length-take-le, getD-take, take-append-le, drop-append-le, take-append-drop, take-more, take-at, drop-at, drop-drop, take-all, at-drop-more, at-drop-all}
 use Rattle.std.proofs.shelf.Equals.{sameBytes-decides}
 use Rattle.std.specs.shelf.Text.{sameBytes}
 use Rattle.std.specs.declared.option.Option.{Option}
 use Rattle.std.specs.declared.option.Option.the-variants.{Some, None}
 use Rattle.bytes.specs.Buffers.{over}
 use Rattle.bytes.specs.declared.span.Span.{Span}
-use Rattle.store.specs.Entries.{Entry, lookUp}
+use Rattle.store.specs.Entries.{Entry, lookUp, nameAt}
 use Rattle.table_store.specs.Blocks.{entriesIn, size, part, Holds}
 use Rattle.table_store.specs.declared.table.Row.{Row}
 
@@ -112,3 +112,41 @@ module _ (rows : List Row) (block name : List ℕ) (at i start end : ℕ) (left 
 
 pub left-all : (rows : List Row) (block name : List ℕ) (at i : ℕ) → Left rows block name at i → length rows ≤ i → lookUp (entriesIn rows block) name ≡ None
 left-all rows block name at i left h = sym (left .looks) ∙ at-drop-all (λ z. lookUp (entriesIn z (drop at block)) name) rows i h
+
+pub size-take : (n : ℕ) (rows : List Row) → size (take n rows) ≤ size rows
+size-take n rows = omega (arith, ap size (take-append-drop n rows), size-append (take n rows) (drop n rows))
+
+pub size-more : (rows : List Row) (i : ℕ) → i < length rows → size (take (i + 1) rows) ≡ size (take i rows) + (getD rows i blank .name + getD rows i blank .body)
+size-more rows i h = ap size (take-more rows i blank h) ∙ size-append (take i rows) (getD rows i blank ∷ []) ∙ (omega arith)
+
+-- the name of the entry at an index lies behind the entries before it
+pub name-in : (rows : List Row) (block : List ℕ) (i : ℕ) → i < length rows → take (getD rows i blank .name) (drop (size (take i rows)) block) ≡ nameAt (entriesIn rows block) i
+name-in [] block i h = absurd (omega arith)
+name-in (r ∷ rs) block zero h = refl
+name-in (r ∷ rs) block (suc i) h =
+    ap (take (getD rs i blank .name)) (sym (drop-drop (size (take i rs)) (r .name + r .body) block)) ∙ name-in rs (drop (r .name + r .body) block) i (omega arith)
+
+pub length-entries : (rows : List Row) (block : List ℕ) → length (entriesIn rows block) ≡ length rows
+length-entries [] block = refl
+length-entries (r ∷ rs) block = ap suc (length-entries rs (drop (r .name + r .body) block))
+
+-- where the name of an entry lies in the block, by the rows in use
+module _ (rows : List Row) (block : List ℕ) (count filled i start : ℕ) (counted : count ≤ length rows) (e : filled ≡ size (take count rows)) (within : filled ≤ length block) (h : i < count)
+    (es : start ≡ size (take i (take (count - 0) rows))) where
+  front : start ≡ size (take i (take count rows))
+  front = es ∙ ap (λ z. size (take i (take z rows))) (omega arith)
+
+  short : i < length (take count rows)
+  short = omega (arith, length-take-le count rows counted)
+
+  same-row : getD (take count rows) i blank ≡ getD rows i blank
+  same-row = getD-take count rows i blank h
+
+  pub name-within : start + getD rows i blank .name ≤ length block
+  name-within =
+      omega (arith, front, size-more (take count rows) i short, size-take (i + 1) (take count rows), ap (λ z. z .name) same-row)
+
+  pub name-part : part block (record { start = start; end = start + getD rows i blank .name }) ≡ nameAt (entriesIn (take count rows) block) i
+  name-part =
+      ap (λ z. take z (drop start block)) (omega arith) ∙ ap (λ z. take (z .name) (drop start block)) (sym same-row) ∙ ap (λ z. take (getD (take count rows) i blank .name) (drop z block)) front
+      ∙ name-in (take count rows) block i short

@@ -2,13 +2,13 @@
 ghost use mathlib.Core.Path.{_≡_};
 ghost use mathlib.Core.Bool.{true};
 ghost use mathlib.Core.List.{List, [], _++_};
-ghost use Prim.Native.Nat.{ℕ, _+_, _≤_, _<_};
+ghost use Prim.Native.Nat.{ℕ, _+_, _^_, _≤_, _<_};
 ghost use lib.ListN.{length, take, getD};
 ghost use Rattle.std.specs.Options.{Cases};
 ghost use Rattle.std.specs.declared.option.Option.the-variants.{None};
 ghost use Rattle.bytes.specs.Buffers.{over};
 ghost use Rattle.store.specs.Meanings.{isName, with};
-ghost use Rattle.store.specs.Entries.{lookUp};
+ghost use Rattle.store.specs.Entries.{lookUp, nameAt};
 ghost use Rattle.table_store.specs.Blocks.{entriesIn, size, part, Holds};
 ghost use Rattle.table_store.specs.Held.{rowsOf, entriesOf, meaningOf, roomIn, Sound, Added};
 use crate::table::Row;
@@ -30,6 +30,18 @@ fn find(rows: &[Row], block: &[u8], name: &[u8]) -> Option<Span>
         at = end;
     }
     None
+}
+
+// Where the entry of a row begins in the block.
+fn start_of(rows: &[Row], index: usize) -> usize
+    requires { ⌜ (index ≤ length (now rows)) × (size (now rows) < 2 ^ 64) ⌝ }
+    ensures { λ r. ⌜ r ≡ size (take index (now (rows .entry))) ⌝ }
+{
+    let mut at = 0;
+    for i in 0..index {
+        at += rows[i].name + rows[i].body;
+    }
+    at
 }
 
 // Copies the part at the span to the start of `out`, and gives its length.
@@ -67,6 +79,19 @@ impl<'a> Table<'a> {
         find(&self.rows[0..count], self.block, name)
     }
 
+    // Where the name of an entry lies.
+    pub(crate) fn name_span(&self, index: usize) -> Span
+        requires { ⌜ Sound (now self) ⌝ }
+        requires { ⌜ index < now self .count ⌝ }
+        ensures name { λ r. ⌜ part (now (now (self .entry) .block)) r ≡ nameAt (entriesOf (now (self .entry))) index ⌝ }
+        ensures within { λ r. ⌜ (r .start ≤ r .end) × (r .end ≤ length (now (now (self .entry) .block))) ⌝ }
+    {
+        let count = self.count;
+        let start = start_of(&self.rows[0..count], index);
+        let end = start + self.rows[index].name;
+        Span { start, end }
+    }
+
     // Adds an entry of a new name, for which there is room.
     pub(crate) fn add(&mut self, name: &[u8], body: &[u8])
         requires { ⌜ Sound (now self) ⌝ }
@@ -79,7 +104,10 @@ impl<'a> Table<'a> {
     {
         let at = self.filled;
         let count = self.count;
-        let row = Row { name: name.len(), body: body.len() };
+        let row = Row {
+            name: name.len(),
+            body: body.len(),
+        };
         self.filled = put_entry(self.block, at, name, body);
         self.rows[count] = row;
         self.count = count + 1;

@@ -17,6 +17,8 @@ pub mod table;
 
 use store::Store;
 use store::limits;
+use store::limits::NAME_MAX;
+use store::listing::Listing;
 use store::refusal::FileRefusal;
 use store::refusal::GetRefusal;
 use table::Row;
@@ -40,7 +42,12 @@ impl<'a> TableStore<'a> {
         ensures rows { λ r. ⌜ now (r .table .rows) ≡ now (rows .entry) ⌝ }
         ensures block { λ r. ⌜ now (r .table .block) ≡ now (block .entry) ⌝ }
     {
-        let table = Table { rows, block, count: 0, filled: 0 };
+        let table = Table {
+            rows,
+            block,
+            count: 0,
+            filled: 0,
+        };
         TableStore { table }
     }
 }
@@ -84,5 +91,17 @@ pub impl<'a> Store for TableStore<'a> as TableStoreStore {
         }
         self.table.add(name, body);
         Ok(())
+    }
+}
+
+pub impl<'a> Listing for TableStore<'a> as TableStoreListing {
+    ghost entries = { λ s. entriesOf (s .table) };
+
+    fn name_at(&self, index: usize, out: &mut [u8; NAME_MAX]) -> Option<usize> {
+        if index >= self.table.count {
+            return None;
+        }
+        let name = self.table.name_span(index);
+        Some(edit::copy_out(self.table.block, name, out))
     }
 }
