@@ -1,3 +1,4 @@
 pub mod Hexed
 pub mod Overs
+pub mod Sought
 mod Steps

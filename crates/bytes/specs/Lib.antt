@@ -1,2 +1,3 @@
 pub mod Buffers
 pub mod Hex
+pub mod Search

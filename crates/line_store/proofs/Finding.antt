@@ -17,7 +17,8 @@ use Rattle.bytes.specs.Hex.{hex}
 use Rattle.bytes.proofs.Hexed.{hex-one}
 use Rattle.store.specs.Meanings.{bodyOf}
 use Rattle.store.specs.Entries.{Entry, lookUp}
-use Rattle.line_store.specs.Texts.{lineThen, textOf, upTo}
+use Rattle.bytes.specs.Search.{upTo}
+use Rattle.line_store.specs.Texts.{lineThen, textOf}
 use Rattle.line_store.specs.Marked.{Holds}
 use Rattle.line_store.specs.declared.lines.Marks.{Marks}
 use Rattle.line_store.proofs.Seeking.{LineAt, line-at}

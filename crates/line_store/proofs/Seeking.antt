@@ -7,22 +7,18 @@ use lib.ListN.{length, take, drop, getD}
 use native.Mathlib.Omega.{arith}
 use Rattle.std.proofs.shelf.Tests.{eq-eqb, ne-eqb}
 use Rattle.std.proofs.shelf.Lists.{drop-drop, drop-at, take-at, length-drop, length-append, at-drop-more, at-drop-all}
+use Rattle.bytes.specs.Search.{upTo}
 use Rattle.bytes.specs.Hex.{hexDigit, hex}
+use Rattle.bytes.proofs.Sought.{upTo-here, upTo-on}
 use Rattle.bytes.proofs.Hexed.{digit-big, length-hex, hex-cancel}
 use Rattle.store.specs.Entries.{Entry}
-use Rattle.line_store.specs.Texts.{lineThen, upTo}
+use Rattle.line_store.specs.Texts.{lineThen}
 
 pub line-cancel : (p q : Entry) (x y : List ℕ) → lineThen p x ≡ lineThen q y → (p ≡ q) × (x ≡ y)
 line-cancel p q x y e =
     let a = hex-cancel 32 (omega arith) (p .0) (q .0) (hex (p .1) ++ 0x0a ∷ x) (hex (q .1) ++ 0x0a ∷ y) e in
     let b = hex-cancel 10 (omega arith) (p .1) (q .1) x y (a .1) in
     (ap (λ z. (z, p .1)) (a .0) ∙ ap (λ z. (q .0, z)) (b .0), b .1)
-
-upTo-here : (c x : ℕ) (xs : List ℕ) → x ≡ c → upTo c (x ∷ xs) ≡ 0
-upTo-here c x xs e = ap (λ z. cond z 0 (suc (upTo c xs))) (eq-eqb x c e)
-
-upTo-on : (c x : ℕ) (xs : List ℕ) → (x ≡ c → ⊥) → upTo c (x ∷ xs) ≡ suc (upTo c xs)
-upTo-on c x xs n = ap (λ z. cond z 0 (suc (upTo c xs))) (ne-eqb x c n)
 
 pub upTo-hex : (c : ℕ) → c < 48 → (a x : List ℕ) → upTo c (hex a ++ c ∷ x) ≡ length (hex a)
 upTo-hex c l [] x = upTo-here c c x refl
@@ -60,13 +56,3 @@ line-at text at p rest space feed h e em ee =
       body = ap (λ z. take z (drop (space + 1) text)) (omega arith) ∙ ap (take (length b)) past ∙ take-at b (0x0a ∷ rest) (length b) refl;
       next = ap (λ z. drop z text) (omega arith) ∙ sym (drop-drop (length b + 1) (space + 1) text) ∙ ap (drop (length b + 1)) past ∙ sym (drop-drop 1 (length b) (b ++ 0x0a ∷ rest)) ∙ ap (drop 1) (drop-at b (0x0a ∷ rest) (length b) refl);
     }
-
-module _ (c : ℕ) (s : List ℕ) (i : ℕ) where
-  pub seek-on : i < length s → (getD s i 0 ≡ c → ⊥) → (i + 1) + upTo c (drop (i + 1) s) ≡ i + upTo c (drop i s)
-  seek-on h n = (omega arith) ∙ ap (λ z. i + z) (sym (at-drop-more (upTo c) s i 0 h ∙ upTo-on c (getD s i 0) (drop (i + 1) s) n))
-
-  pub seek-found : i < length s → getD s i 0 ≡ c → i ≡ i + upTo c (drop i s)
-  seek-found h e = (omega arith) ∙ ap (λ z. i + z) (sym (at-drop-more (upTo c) s i 0 h ∙ upTo-here c (getD s i 0) (drop (i + 1) s) e))
-
-  pub seek-none : length s ≤ i → i ≡ i + upTo c (drop i s)
-  seek-none h = (omega arith) ∙ ap (λ z. i + z) (sym (at-drop-all (upTo c) s i h))

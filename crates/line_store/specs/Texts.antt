@@ -1,5 +1,5 @@
 -- The text of entries: a line for each, name, space, body and line feed, in lowercase hexadecimal.
-use Prim.Native.Nat.{ℕ, suc, _+_}
+use Prim.Native.Nat.{ℕ, _+_}
 use mathlib.Core.Path.{_≡_}
 use mathlib.Core.Bool.{Bool, true, cond, _&&_}
 use mathlib.Core.List.{List, [], _∷_, _++_, map}
@@ -7,6 +7,7 @@ use lib.ListN.{take, drop}
 use lib.Dec.{eqb}
 use Rattle.std.specs.shelf.Text.{sameBytes}
 use Rattle.bytes.specs.Hex.{hex, unhex}
+use Rattle.bytes.specs.Search.{upTo}
 use Rattle.store.specs.Meanings.{Meaning}
 use Rattle.store.specs.Entries.{Entry, lookUp, sound}
 
@@ -25,11 +26,6 @@ Told t = (es : List Entry) × ((textOf es ≡ t) × (sound es ≡ true))
 -- a text tells a meaning where it is that of sound entries that look up so
 abbrev pub Tells : List ℕ → Meaning → Type 0
 Tells t m = (es : List Entry) × ((textOf es ≡ t) × ((sound es ≡ true) × (lookUp es ≡ m)))
-
--- how many bytes come before the first c
-abbrev pub upTo : ℕ → List ℕ → ℕ
-upTo c [] = 0
-upTo c (x ∷ xs) = cond (eqb x c) 0 (suc (upTo c xs))
 
 abbrev pub onto : ℕ → List (List ℕ) → List (List ℕ)
 onto x [] = []

@@ -20,6 +20,7 @@ use crate::lines::Marks;
 use crate::lines::OpenRefusal;
 use crate::scan;
 use bytes::hex;
+use bytes::search::seek;
 use store::limits;
 use store::limits::NAME_MAX;
 
@@ -56,7 +57,7 @@ pub(crate) fn copy_name(text: &[u8], index: usize, out: &mut [u8]) -> Option<usi
     if at == text.len() {
         return None;
     }
-    let space = scan::seek(text, at, b' ');
+    let space = seek(text, at, b' ');
     let long = (space - at) / 2;
     hex::read(&mut out[0..long], &text[at..space]);
     Some(long)

@@ -10,27 +10,14 @@ ghost use Rattle.std.specs.declared.option.Option.the-variants.{None};
 ghost use Rattle.bytes.specs.Hex.{hex as hexOf, isHex, unhex};
 ghost use Rattle.store.specs.Meanings.{isName, isBody};
 ghost use Rattle.store.specs.Entries.{Entry, lookUp};
-ghost use Rattle.line_store.specs.Texts.{textOf, upTo, Told};
+ghost use Rattle.line_store.specs.Texts.{textOf, Told};
 ghost use Rattle.line_store.specs.Marked.{Holds, ALine, NoLine, Starts};
 use crate::lines::Marks;
 use bytes::hex;
+use bytes::search::seek;
 use store::limits;
 use store::limits::BODY_MAX;
 use store::limits::NAME_MAX;
-
-// The place of the first `c` from `from` on, or the text's end.
-pub(crate) fn seek(text: &[u8], from: usize, c: u8) -> usize
-    requires { ⌜ from ≤ length (now text) ⌝ }
-    ensures is { λ r. ⌜ r ≡ from + upTo c (drop from (now (text .entry))) ⌝ }
-    ensures within { λ r. ⌜ (from ≤ r) × (r ≤ length (now (text .entry))) ⌝ }
-{
-    for i in from..text.len() {
-        if text[i] == c {
-            return i;
-        }
-    }
-    text.len()
-}
 
 // The marks of the line whose name is written `key`.
 pub(crate) fn find(text: &[u8], key: &[u8]) -> Option<Marks>

@@ -17,9 +17,6 @@ add-space c =
     let w : c .seek-space .result + 1 ≤ length (c .args .text .now) = space-within (c .args .text .now) (c .args .key .now) (c .loop-at .at) (c .seek-space .result) (c .loop-at .inv) (c .loop-at-test .taken) (c .seek-space .ensures .is) in
     search needs
 
-pub seek-feed-requires : need.seek-feed-requires
-seek-feed-requires c κs = space-within (c .args .text .now) (c .args .key .now) (c .loop-at .at) (c .seek-space .result) (c .loop-at .inv) (c .loop-at-test .taken) (c .seek-space .ensures .is)
-
 pub add-at : need.add-at
 add-at c =
     let w : c .seek-feed .result + 1 ≤ length (c .args .text .now) = feed-within (c .args .text .now) (c .args .key .now) (c .loop-at .at) (c .seek-space .result) (c .seek-feed .result) (c .loop-at .inv) (c .loop-at-test .taken) (c .seek-space .ensures .is) (c .seek-feed .ensures .is) in

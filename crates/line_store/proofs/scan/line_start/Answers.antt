@@ -3,7 +3,7 @@ use Prim.Native.Nat.{ℕ, _+_, _≤_, _<_}
 use lib.ListN.{length, drop}
 use native.Mathlib.Omega.{arith}
 use borrow.Author.Needs.{needs}
-use Rattle.line_store.specs.Texts.{upTo}
+use Rattle.bytes.specs.Search.{upTo}
 use Rattle.line_store.specs.Marked.{Starts}
 use Rattle.line_store.proofs.Listing.{starts-none, starts-more, starts-past, line-of}
 use Rattle.line_store.proofs.scan.line_start.Needs as need
@@ -13,13 +13,6 @@ loop-i-holds c = starts-none (c .args .text .now)
 
 pub returns-then-at-text : need.returns-then-at-text
 returns-then-at-text c = starts-past (c .args .text .now) (c .loop-i .at) (c .loop-i .-i) (c .args .index) (c .loop-i .inv) (omega arith) (omega arith)
-
-pub seek-feed-requires : need.seek-feed-requires
-seek-feed-requires c κs =
-    let text = c .args .text .now in
-    let space = c .seek-space .result in
-    let l = line-of text (c .loop-i .at) (c .loop-i .-i) space ((space + 1) + upTo 0x0a (drop (space + 1) text)) (c .loop-i .inv) (omega arith) (c .seek-space .ensures .is) refl (c .pre .0) (c .pre .1) in
-    omega (arith, l .feed-is, l .within)
 
 pub add-at : need.add-at
 add-at c =
