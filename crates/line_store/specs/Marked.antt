@@ -38,7 +38,7 @@ NoLine text at = (e : Entry) (rest : List ℕ) → drop at text ≡ lineThen e r
 -- the name of the entry at the index is written over the buffer, if there is one
 pub record Named (es : List Entry) (index : ℕ) (found : Option ℕ) (before after : List ℕ) : Type 0 where
   pub there : isSome found ≡ ltb index (length es)
-  pub long : Cases found (length es ≤ index) (λ k. k ≡ length (nameAt es index))
+  pub long : Cases found (length es ≤ index) (λ k. (k ≡ length (nameAt es index)) × (k ≤ 96))
   pub after-is : after ≡ over (nameAt es index) before
 
 -- the line of the entry at the index begins at `at`; past the last one that is the text's end

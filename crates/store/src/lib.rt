@@ -1,7 +1,7 @@
 // The store of entries: what every implementation promises.
 ghost use mathlib.Core.Path.{_≡_};
 ghost use mathlib.Core.Bool.{Bool, false, cond};
-ghost use Prim.Native.Nat.{ℕ};
+ghost use Prim.Native.Nat.{ℕ, _≤_};
 ghost use lib.ListN.{length};
 ghost use Rattle.std.specs.Options.{isSome};
 ghost use Rattle.std.specs.Results.{isOk};
@@ -37,7 +37,7 @@ pub trait Store {
     // Writes the name's body at the start of `out`, leaves the rest, and gives the body's length.
     fn get(&self, name: &[u8], out: &mut [u8]) -> Result<usize, GetRefusal>
         ensures answer { λ r. ⌜ getCode r ≡ getAnswer (length (now (out .entry))) (now (name .entry)) (isSome (meaning (now (self .entry)) (now (name .entry)))) ⌝ }
-        ensures long { λ r. ⌜ made r (λ k. k ≡ length (bodyOf (meaning (now (self .entry)) (now (name .entry))))) ⌝ }
+        ensures long { λ r. ⌜ made r (λ k. (k ≡ length (bodyOf (meaning (now (self .entry)) (now (name .entry))))) × (k ≤ length (now (out .entry)))) ⌝ }
         ensures after { λ r. ⌜ now (out .exit) ≡ cond (isOk r) (over (bodyOf (meaning (now (self .entry)) (now (name .entry)))) (now (out .entry))) (now (out .entry)) ⌝ };
 
     // Adds an entry. A refusal changes nothing.

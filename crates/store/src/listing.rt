@@ -18,6 +18,6 @@ pub trait Listing {
     // and gives the name's length. Past the last entry it writes nothing.
     fn name_at(&self, index: usize, out: &mut [u8; NAME_MAX]) -> Option<usize>
         ensures there { λ r. ⌜ isSome r ≡ ltb index (length (entries (now (self .entry)))) ⌝ }
-        ensures long { λ r. ⌜ Cases r (length (entries (now (self .entry))) ≤ index) (λ k. k ≡ length (nameAt (entries (now (self .entry))) index)) ⌝ }
+        ensures long { λ r. ⌜ Cases r (length (entries (now (self .entry))) ≤ index) (λ k. (k ≡ length (nameAt (entries (now (self .entry))) index)) × (k ≤ 96)) ⌝ }
         ensures after { λ _. ⌜ now (out .exit) ≡ over (nameAt (entries (now (self .entry))) index) (now (out .entry)) ⌝ };
 }

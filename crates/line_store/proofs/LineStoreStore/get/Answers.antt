@@ -6,7 +6,7 @@ use Rattle.store.specs.Meanings.{bodyOf}
 use Rattle.store.specs.Answers.{getAnswer}
 use Rattle.line_store.specs.Marked.{Holds}
 use Rattle.line_store.specs.Held.{textIn, meaningOf}
-use Rattle.store.proofs.Looking.{body-is}
+use Rattle.store.proofs.Looking.{body-is, get-space}
 use Rattle.line_store.specs.Texts.{entriesOf}
 use Rattle.line_store.proofs.Telling.{is-text-entries}
 use Rattle.line_store.proofs.LineStoreStore.get.Needs as need
@@ -21,6 +21,6 @@ returns c =
     let k = c .copy-body .ensures (bodyOf m) (h .body) (v .1) in
     record {
       answer = c .in-Continue-check-get .ensures tt ∙ ap (getAnswer (length (c .args .out .now)) (c .args .name .now)) (sym (h .there));
-      long = k .0;
+      long = (k .0, omega (arith, k .0, v .0, get-space (length (c .args .out .now)) (c .args .name .now) (c .in-Continue-check-get .ensures tt)));
       after = k .1;
     }

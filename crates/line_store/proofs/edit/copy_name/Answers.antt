@@ -55,6 +55,6 @@ returns c es e s =
     let got : c .read .last .out ≡ unhex digits = c .read .ensures ∙ unhex-fills (take k out) digits (omega arith) in
     record {
       there = sym (lt-ltb _ _ n);
-      long = omega arith;
+      long = (omega arith, omega (arith, short .0));
       after-is = copied digits name (c .read .last .out) out k spelt (short .1) got (omega arith);
     }

@@ -37,6 +37,6 @@ returns c =
     let r = c .copy-out .ensures in
     record {
       there = sym (lt-ltb _ _ n);
-      long = r .long ∙ ap length (w .name);
+      long = (r .long ∙ ap length (w .name), omega (arith, r .long, ap length (w .name), name-at-short (entriesOf t) (c .args .index) (c .args .self .now .told) n .0));
       after = r .after ∙ ap (λ z. over z (c .args .out .now)) (w .name);
     }

@@ -25,8 +25,11 @@ pub returns : need.returns
 returns c =
     let s = c .args .self .now in
     let h = c .in-Some .ensures tt in
+    let small = body-is (entriesOf (s .table)) (s .told) (c .args .name .now) (ap isSome (h .body)) .0 in
+    let space = get-space (length (c .args .out .now)) (c .args .name .now) (c .in-Continue-check-get .ensures tt) in
+    let long : c .copy-out .result ≡ length (bodyOf (meaningOf (s .table) (c .args .name .now))) = c .copy-out .ensures .long ∙ sym (ap (λ z. length (bodyOf z)) (h .body)) in
     record {
       answer = c .in-Continue-check-get .ensures tt ∙ ap (getAnswer (length (c .args .out .now)) (c .args .name .now)) (sym (ap isSome (h .body)));
-      long = c .copy-out .ensures .long ∙ sym (ap (λ z. length (bodyOf z)) (h .body));
+      long = (long, omega arith);
       after = c .copy-out .ensures .after ∙ sym (ap (λ z. over (bodyOf z) (c .args .out .now)) (h .body));
     }
