@@ -1,7 +1,7 @@
 // Tests of the stores: both are driven through the same calls, at the edge of each limit.
+use line_store::LineStore;
 use std::alloc::AllocError;
 use std::alloc::Global;
-use line_store::LineStore;
 use store::Store;
 use store::limits::BODY_MAX;
 
@@ -37,7 +37,13 @@ fn opening(heap: Global, text: &[u8]) -> Result<u8, AllocError> {
 }
 
 // What a store answers where a name is filed, looked for, and got into a full and a short buffer.
-fn round<S: Store>(heap: Global, store: &mut S, name: &[u8], body: &[u8], answers: &mut Vec<u8>) -> Result<(), AllocError> {
+fn round<S: Store>(
+    heap: Global,
+    store: &mut S,
+    name: &[u8],
+    body: &[u8],
+    answers: &mut Vec<u8>,
+) -> Result<(), AllocError> {
     let mut full = vec![in heap; 0; BODY_MAX]?;
     let mut short = vec![in heap; 0; BODY_MAX - 1]?;
     answers.push(file_code(store, name, body))?;
@@ -77,23 +83,74 @@ mod tests {
 
     // file, has, get, get into a short buffer: in each round of `drive`
     const ROUNDS: [u8; 68] = [
-        0, 1, 0, 1, // a
-        9, 0, 9, 1, // no bytes
-        9, 0, 9, 1, // a space
-        21, 1, 0, 1, // a again
-        0, 1, 0, 1, // 0x21
-        0, 1, 0, 1, // 0x7E
-        9, 0, 9, 1, // 0x7F
-        9, 0, 9, 1, // 0xFF
-        0, 1, 0, 1, // a name of 1
-        0, 1, 0, 1, // of 95
-        0, 1, 0, 1, // of 96
-        9, 0, 9, 1, // of 97
-        9, 0, 9, 1, // of 98
-        0, 1, 0, 1, // a body of 0
-        0, 1, 0, 1, // of 32,767
-        0, 1, 0, 1, // of 32,768
-        9, 0, 23, 1, // of 32,769
+        0,
+        1,
+        0,
+        1, // a
+        9,
+        0,
+        9,
+        1, // no bytes
+        9,
+        0,
+        9,
+        1, // a space
+        21,
+        1,
+        0,
+        1, // a again
+        0,
+        1,
+        0,
+        1, // 0x21
+        0,
+        1,
+        0,
+        1, // 0x7E
+        9,
+        0,
+        9,
+        1, // 0x7F
+        9,
+        0,
+        9,
+        1, // 0xFF
+        0,
+        1,
+        0,
+        1, // a name of 1
+        0,
+        1,
+        0,
+        1, // of 95
+        0,
+        1,
+        0,
+        1, // of 96
+        9,
+        0,
+        9,
+        1, // of 97
+        9,
+        0,
+        9,
+        1, // of 98
+        0,
+        1,
+        0,
+        1, // a body of 0
+        0,
+        1,
+        0,
+        1, // of 32,767
+        0,
+        1,
+        0,
+        1, // of 32,768
+        9,
+        0,
+        23,
+        1, // of 32,769
     ];
 
     #[test]
@@ -181,7 +238,18 @@ mod tests {
     fn texts_that_no_store_has(rt: LibcRuntime) -> Result<(), Fail> {
         let heap = rt.alloc();
         let texts: [&[u8]; 12] = [
-            b"\n", b"61", b"61\n", b"61 62", b"6 62\n", b"61 6\n", b"61 6A\n", b" 62\n", b"61  62\n", b"20 62\n", b"61 62\n61 \n", b"61 62\r\n",
+            b"\n",
+            b"61",
+            b"61\n",
+            b"61 62",
+            b"6 62\n",
+            b"61 6\n",
+            b"61 6A\n",
+            b" 62\n",
+            b"61  62\n",
+            b"20 62\n",
+            b"61 62\n61 \n",
+            b"61 62\r\n",
         ];
         for text in texts {
             check_eq(opening(heap, text)?, 12)?;

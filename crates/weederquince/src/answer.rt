@@ -11,7 +11,14 @@ pub struct Answer {
 
 impl Answer {
     pub fn new(heap: Global) -> Answer {
-        Answer { heap, bytes: Vec::new(heap) }
+        Answer {
+            heap,
+            bytes: Vec::new(heap),
+        }
+    }
+
+    pub fn heap(&self) -> Global {
+        self.heap
     }
 
     pub fn as_slice(&self) -> &[u8] {
@@ -26,18 +33,13 @@ impl Answer {
         self.raw(text.as_bytes())
     }
 
-    // The bytes as a word of a script: `x:` and their digits.
-    pub fn hex(&mut self, bytes: &[u8]) -> Result<(), AllocError> {
+    // The bytes as the last word of a line: `x:` and their digits.
+    pub fn hex_line(&mut self, bytes: &[u8]) -> Result<(), AllocError> {
+        let mut digits = vec![in self.heap; 0; bytes.len().saturating_mul(2)]?;
+        hex::write(digits.as_mut_slice(), bytes);
         self.text("x:")?;
-        let digits = bytes.len().saturating_mul(2);
-        let mut text = vec![in self.heap; 0; digits]?;
-        hex::write(text.as_mut_slice(), bytes);
-        self.raw(text.as_slice())
-    }
-
-    pub fn number(&mut self, n: usize) -> Result<(), AllocError> {
-        let digits = format!(self.heap, "{n}")?;
-        self.text(digits.as_str())
+        self.raw(digits.as_slice())?;
+        self.text("\n")
     }
 
     pub fn line(&mut self, text: &str) -> Result<(), AllocError> {
@@ -50,8 +52,7 @@ impl Answer {
     }
 
     pub fn refused(&mut self, number: u8) -> Result<(), AllocError> {
-        self.text("refused ")?;
-        self.number(usize::from(number))?;
-        self.text("\n")
+        let line = format!(self.heap, "refused {number}\n")?;
+        self.text(line.as_str())
     }
 }

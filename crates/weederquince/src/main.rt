@@ -1,10 +1,12 @@
 // Weederquince: reads a script on standard input, a call a line, and answers each call.
 mod answer;
-mod call;
 mod mistake;
+mod opening;
 mod script;
 mod session;
+mod store_calls;
 mod target;
+mod verb;
 mod words;
 
 use std::error::AnyError;

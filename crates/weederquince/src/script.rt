@@ -10,7 +10,11 @@ pub struct Script<'a> {
 
 impl<'a> Script<'a> {
     pub fn new(text: &'a [u8]) -> Script<'a> {
-        Script { text, at: 0, number: 0 }
+        Script {
+            text,
+            at: 0,
+            number: 0,
+        }
     }
 
     // The number of the line that was given last, from 1.

@@ -3,6 +3,8 @@ use crate::mistake::Mistake;
 use crate::mistake::Trouble;
 use crate::mistake::TroubleFromAllocError;
 use crate::mistake::TroubleFromMistake;
+use crate::verb::Verb;
+use crate::verb::verb_of;
 use bytes::hex;
 use bytes::search::seek;
 use std::alloc::Global;
@@ -20,7 +22,7 @@ impl<'a> Words<'a> {
     }
 
     // The next word, which is empty where two spaces stand together.
-    pub fn next(&mut self) -> Option<&'a [u8]> {
+    fn next(&mut self) -> Option<&'a [u8]> {
         let line = self.line;
         let from = self.at;
         if from > line.len() {
@@ -31,8 +33,17 @@ impl<'a> Words<'a> {
         Some(&line[from..end])
     }
 
+    // The call that the next word names.
+    pub fn verb(&mut self) -> Result<Verb, Mistake> {
+        let word = self.wanted()?;
+        let Some(verb) = verb_of(word) else {
+            return Err(Mistake::UnknownCall);
+        };
+        Ok(verb)
+    }
+
     // The next word, which has to be there.
-    fn wanted(&mut self) -> Result<&'a [u8], Mistake> {
+    pub fn wanted(&mut self) -> Result<&'a [u8], Mistake> {
         match self.next() {
             Some([]) => Err(Mistake::EmptyWord),
             Some(word) => Ok(word),
@@ -49,14 +60,51 @@ impl<'a> Words<'a> {
         number_of(self.wanted()?)
     }
 
+    // The number that comes last, or this one.
+    pub fn last_number_or(&mut self, n: usize) -> Result<usize, Mistake> {
+        if !self.more() {
+            return Ok(n);
+        }
+        let number = self.number()?;
+        self.end()?;
+        Ok(number)
+    }
+
+    // The bytes of the last word.
+    pub fn last_bytes(&mut self, heap: Global) -> Result<Vec<u8>, Trouble> {
+        let word = self.wanted()?;
+        self.end()?;
+        spelt(heap, word)
+    }
+
+    // The bytes of the last word, no bytes if there is none.
+    pub fn last_bytes_or_none(&mut self, heap: Global) -> Result<Vec<u8>, Trouble> {
+        if self.more() {
+            self.last_bytes(heap)
+        } else {
+            Ok(Vec::new(heap))
+        }
+    }
+
+    // The last number.
+    pub fn last_number(&mut self) -> Result<usize, Mistake> {
+        let number = self.number()?;
+        self.end()?;
+        Ok(number)
+    }
+
     // Whether a word is still to come.
-    pub fn more(&self) -> bool {
+    fn more(&self) -> bool {
         self.at <= self.line.len()
     }
 
     // There has to be no further word.
     pub fn end(&self) -> Result<(), Mistake> {
-        if self.more() { Err(Mistake::ExtraWord) } else { Ok(()) }
+        if self.more() {
+            Err(Mistake::ExtraWord)
+        } else {
+            Ok(())
+        }
     }
 }
 
@@ -76,17 +124,18 @@ fn spelt(heap: Global, word: &[u8]) -> Result<Vec<u8>, Trouble> {
 fn number_of(word: &[u8]) -> Result<usize, Mistake> {
     let mut n: usize = 0;
     for b in word {
-        let digit = match *b {
-            b'0'..=b'9' => usize::from(*b - b'0'),
-            _ => return Err(Mistake::NotANumber),
+        let Some(more) = with_digit(n, *b) else {
+            return Err(Mistake::NotANumber);
         };
-        n = match n.checked_mul(10) {
-            Some(tens) => match tens.checked_add(digit) {
-                Some(sum) => sum,
-                None => return Err(Mistake::NotANumber),
-            },
-            None => return Err(Mistake::NotANumber),
-        };
+        n = more;
     }
     Ok(n)
+}
+
+// The number with one more decimal digit behind it.
+fn with_digit(n: usize, digit: u8) -> Option<usize> {
+    match digit {
+        b'0'..=b'9' => n.checked_mul(10)?.checked_add(usize::from(digit - b'0')),
+        _ => None,
+    }
 }
