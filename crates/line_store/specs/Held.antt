@@ -7,7 +7,7 @@ use lib.ListN.{length, take}
 use lib.Dec.{leb}
 use denote.Ref.{now}
 use Rattle.bytes.specs.Buffers.{over}
-use Rattle.store.specs.Meanings.{Meaning}
+use Rattle.store.specs.Meanings.{Meaning, Lawful}
 use Rattle.store.specs.Entries.{Entry, lookUp}
 use Rattle.line_store.specs.Texts.{lineThen, entriesOf, isText}
 use Rattle.line_store.specs.declared.lines.Lines.{Lines}
@@ -30,6 +30,7 @@ roomIn s n b = leb (s .used + lineSize n b) (length (now (s .buffer)))
 pub record Sound (s : Lines) : Type 0 where
   pub within : s .used ≤ length (now (s .buffer))
   pub told : isText (textIn s) ≡ true
+  pub lawful : Lawful (meaningOf s)
 
 -- a line is written behind the text, and the bytes past it stay
 pub record Appended (before after : Lines) (e : Entry) : Type 0 where

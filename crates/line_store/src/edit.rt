@@ -9,7 +9,7 @@ ghost use Rattle.std.specs.Results.{Cases};
 ghost use Rattle.std.specs.declared.option.Option.the-variants.{None};
 ghost use Rattle.bytes.specs.Buffers.{over, areBytes};
 ghost use Rattle.bytes.specs.Hex.{hex as hexOf};
-ghost use Rattle.store.specs.Meanings.{isName, with};
+ghost use Rattle.store.specs.Meanings.{isName, with, Copied};
 ghost use Rattle.store.specs.Entries.{Entry, lookUp, sound};
 ghost use Rattle.line_store.specs.Texts.{lineThen, textOf, Told};
 ghost use Rattle.line_store.specs.Marked.{Holds, Named};
@@ -36,7 +36,7 @@ fn find_name(text: &[u8], name: &[u8], key: &mut [u8]) -> Option<Marks>
 }
 
 // Copies the body between the marks to the start of `out`, and gives its length.
-pub(crate) fn copy_body(text: &[u8], marks: Marks, out: &mut [u8]) -> usize
+fn copy_body(text: &[u8], marks: Marks, out: &mut [u8]) -> usize
     requires { ⌜ (marks .space + 1 ≤ marks .feed) × (marks .feed < length (now text)) ⌝ }
     requires { ⌜ ((b : List ℕ) × (take (marks .feed - (marks .space + 1)) (drop (marks .space + 1) (now text)) ≡ hexOf b) × (length b ≤ length (now out))) ⌝ }
     ensures { λ r. ⌜ ((b : List ℕ) → take (marks .feed - (marks .space + 1)) (drop (marks .space + 1) (now (text .entry))) ≡ hexOf b → areBytes b ≡ true → (r ≡ length b) × (now (out .exit) ≡ over b (now (out .entry)))) ⌝ }
@@ -99,6 +99,19 @@ impl<'a> Lines<'a> {
         let mut key = [0; 2 * NAME_MAX];
         let used = self.used;
         find_name(&self.buffer[0..used], name, &mut key)
+    }
+
+    // Copies the body of a name to the start of `out`, and gives its length.
+    pub(crate) fn read_body(&self, name: &[u8], out: &mut [u8]) -> Option<usize>
+        requires { ⌜ Sound (now self) ⌝ }
+        requires { ⌜ 32768 ≤ length (now out) ⌝ }
+        ensures { λ r. ⌜ Copied (meaningOf (now (self .entry)) (now (name .entry))) r (now (out .entry)) (now (out .exit)) ⌝ }
+    {
+        let Some(marks) = self.find(name) else {
+            return None;
+        };
+        let used = self.used;
+        Some(copy_body(&self.buffer[0..used], marks, out))
     }
 
     // Whether the first `used` bytes of the buffer are a text.

@@ -6,7 +6,7 @@ ghost use lib.ListN.{length};
 ghost use denote.Ref.{now};
 ghost use Rattle.std.specs.Options.{isSome};
 ghost use Rattle.std.specs.Results.{isOk};
-ghost use Rattle.store.specs.Meanings.{Lawful, with};
+ghost use Rattle.store.specs.Meanings.{Lawful, nothing, with};
 ghost use Rattle.store.specs.Answers.{fileCode, fileAnswer};
 ghost use Rattle.line_store.specs.Texts.{Tells, entriesOf, isText};
 ghost use Rattle.line_store.specs.Held.{textIn, meaningOf, roomIn, Appended};
@@ -45,6 +45,7 @@ pub struct LineStore<'a> {
 impl<'a> LineStore<'a> {
     // An empty store over the buffer, whose bytes stay as they are.
     pub fn new(buffer: &'a mut [u8]) -> LineStore<'a>
+        ensures meaning { λ r. ⌜ meaningOf (r .lines) ≡ nothing ⌝ }
         ensures used { λ r. ⌜ r .lines .used ≡ 0 ⌝ }
         ensures buffer { λ r. ⌜ now (r .lines .buffer) ≡ now (buffer .entry) ⌝ }
     {
@@ -87,11 +88,10 @@ pub impl<'a> Store for LineStore<'a> as LineStoreStore {
 
     fn get(&self, name: &[u8], out: &mut [u8]) -> Result<usize, GetRefusal> {
         limits::check_get(name, out.len())?;
-        let Some(marks) = self.lines.find(name) else {
+        let Some(len) = self.lines.read_body(name, out) else {
             return Err(GetRefusal::Absent);
         };
-        let used = self.lines.used;
-        Ok(edit::copy_body(&self.lines.buffer[0..used], marks, out))
+        Ok(len)
     }
 
     fn file(&mut self, name: &[u8], body: &[u8]) -> Result<(), FileRefusal>

@@ -17,7 +17,6 @@ use Rattle.std.specs.declared.option.Option.the-variants.{Some, None}
 use Rattle.bytes.specs.Buffers.{areBytes}
 use Rattle.store.specs.Meanings.{Meaning, Lawful, allowed, isVisible, allVisible, isName, isBody, with, bodyOf}
 use Rattle.store.specs.Entries.{Entry, isEntry, lookUp, sound, nameAt}
-use Rattle.store.specs.Answers.{getAnswer}
 
 visible-bytes : (xs : List ℕ) → allVisible xs ≡ true → areBytes xs ≡ true
 visible-bytes [] v = refl
@@ -144,13 +143,6 @@ module _ (es : List Entry) (s : sound es ≡ true) where
       go (Some b) e i =
           let v = and-parts (isBody b) (areBytes b) (and-parts (isName n) (isBody b && areBytes b) (look-entry es n b s e) .1) in
           (leb-true _ _ (v .0), v .1)
-
--- a `get` that is not refused at once has space for any body
-pub get-space : (space : ℕ) (name : List ℕ) → 0 ≡ getAnswer space name true → 32768 ≤ space
-get-space space name e = ⊎-elim
-    (λ t. leb-true _ _ t)
-    (λ f. let z : _≡_ {A = ℕ} 0 1 = e ∙ ap (λ z. cond z (cond (isName name) 0 9) 1) f in absurd (omega arith))
-    (cases-bool (leb 32768 space))
 
 -- the entry at an index of a sound list is one
 pub sound-at : (es : List Entry) (i : ℕ) → sound es ≡ true → i < length es → isEntry (getD es i ([], [])) ≡ true

@@ -1,16 +1,22 @@
 -- What a store means: a set of entries, no name twice, as the look-up from a name to its body.
-use Prim.Native.Nat.{ℕ}
+use Prim.Native.Nat.{ℕ, _≤_}
 use mathlib.Core.Path.{_≡_}
 use mathlib.Core.Bool.{Bool, true, cond, _&&_}
 use mathlib.Core.List.{List, [], _∷_}
 use lib.ListN.{length}
 use lib.Dec.{leb}
+use Rattle.std.specs.Options.{isSome, Cases}
 use Rattle.std.specs.shelf.Text.{sameBytes}
 use Rattle.std.specs.declared.option.Option.{Option}
 use Rattle.std.specs.declared.option.Option.the-variants.{Some, None}
+use Rattle.bytes.specs.Buffers.{over}
 
 abbrev pub Meaning : Type 0
 Meaning = List ℕ → Option (List ℕ)
+
+-- no entry
+abbrev pub nothing : Meaning
+nothing n = None
 
 -- a visible character of ASCII
 abbrev pub isVisible : ℕ → Bool
@@ -44,3 +50,9 @@ allowed n (Some b) = isName n && isBody b
 -- only names have bodies, and only such as are bodies
 abbrev pub Lawful : Meaning → Type 0
 Lawful m = (n : List ℕ) → allowed n (m n) ≡ true
+
+-- the body that was found is written at the buffer's start, and its length is given; nothing where none was found
+pub record Copied (found : Option (List ℕ)) (given : Option ℕ) (before after : List ℕ) : Type 0 where
+  pub there : isSome given ≡ isSome found
+  pub long : Cases given (Unit {0}) (λ k. (k ≡ length (bodyOf found)) × (k ≤ length before))
+  pub after-is : after ≡ cond (isSome found) (over (bodyOf found) before) before

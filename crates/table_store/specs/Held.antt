@@ -7,7 +7,7 @@ use lib.ListN.{length, take, set}
 use lib.Dec.{leb, ltb}
 use denote.Ref.{now}
 use Rattle.bytes.specs.Buffers.{over}
-use Rattle.store.specs.Meanings.{Meaning}
+use Rattle.store.specs.Meanings.{Meaning, Lawful}
 use Rattle.store.specs.Entries.{Entry, lookUp, sound}
 use Rattle.table_store.specs.Blocks.{entriesIn, size}
 use Rattle.table_store.specs.declared.table.Row.{Row}
@@ -32,6 +32,7 @@ pub record Sound (t : Table) : Type 0 where
   pub filled-is : t .filled ≡ size (rowsOf t)
   pub within : t .filled ≤ length (now (t .block))
   pub told : sound (entriesOf t) ≡ true
+  pub lawful : Lawful (meaningOf t)
 
 -- an entry is put behind the others, in the block and in the rows; all past it stays
 pub record Added (before after : Table) (e : Entry) : Type 0 where

@@ -7,7 +7,7 @@ ghost use lib.ListN.{length, take, getD};
 ghost use Rattle.std.specs.Options.{Cases};
 ghost use Rattle.std.specs.declared.option.Option.the-variants.{None};
 ghost use Rattle.bytes.specs.Buffers.{over};
-ghost use Rattle.store.specs.Meanings.{isName, with};
+ghost use Rattle.store.specs.Meanings.{isName, with, Copied};
 ghost use Rattle.store.specs.Entries.{lookUp, nameAt};
 ghost use Rattle.table_store.specs.Blocks.{entriesIn, size, part, Holds};
 ghost use Rattle.table_store.specs.Held.{rowsOf, entriesOf, meaningOf, roomIn, Sound, Added};
@@ -77,6 +77,18 @@ impl<'a> Table<'a> {
     {
         let count = self.count;
         find(&self.rows[0..count], self.block, name)
+    }
+
+    // Copies the body of a name to the start of `out`, and gives its length.
+    pub(crate) fn read_body(&self, name: &[u8], out: &mut [u8]) -> Option<usize>
+        requires { ⌜ Sound (now self) ⌝ }
+        requires { ⌜ 32768 ≤ length (now out) ⌝ }
+        ensures { λ r. ⌜ Copied (meaningOf (now (self .entry)) (now (name .entry))) r (now (out .entry)) (now (out .exit)) ⌝ }
+    {
+        let Some(body) = self.find(name) else {
+            return None;
+        };
+        Some(copy_out(self.block, body, out))
     }
 
     // Where the name of an entry lies.

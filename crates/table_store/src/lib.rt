@@ -6,7 +6,7 @@ ghost use lib.ListN.{length};
 ghost use denote.Ref.{now};
 ghost use Rattle.std.specs.Options.{isSome};
 ghost use Rattle.std.specs.Results.{isOk};
-ghost use Rattle.store.specs.Meanings.{Lawful, with};
+ghost use Rattle.store.specs.Meanings.{Lawful, nothing, with};
 ghost use Rattle.store.specs.Entries.{sound as soundOf};
 ghost use Rattle.store.specs.Answers.{fileCode, fileAnswer};
 ghost use Rattle.table_store.specs.Blocks.{size};
@@ -38,7 +38,8 @@ pub struct TableStore<'a> {
 impl<'a> TableStore<'a> {
     // An empty store over rows and a block, which stay as they are.
     pub fn new(rows: &'a mut [Row], block: &'a mut [u8]) -> TableStore<'a>
-        ensures count { λ r. ⌜ r .table .count ≡ 0 ⌝ }
+        ensures meaning { λ r. ⌜ meaningOf (r .table) ≡ nothing ⌝ }
+        ensures count { λ r. ⌜ (r .table .count ≡ 0) × (r .table .filled ≡ 0) ⌝ }
         ensures rows { λ r. ⌜ now (r .table .rows) ≡ now (rows .entry) ⌝ }
         ensures block { λ r. ⌜ now (r .table .block) ≡ now (block .entry) ⌝ }
     {
@@ -70,10 +71,10 @@ pub impl<'a> Store for TableStore<'a> as TableStoreStore {
 
     fn get(&self, name: &[u8], out: &mut [u8]) -> Result<usize, GetRefusal> {
         limits::check_get(name, out.len())?;
-        let Some(body) = self.table.find(name) else {
+        let Some(len) = self.table.read_body(name, out) else {
             return Err(GetRefusal::Absent);
         };
-        Ok(edit::copy_out(self.table.block, body, out))
+        Ok(len)
     }
 
     fn file(&mut self, name: &[u8], body: &[u8]) -> Result<(), FileRefusal>

@@ -7,6 +7,7 @@ use Rattle.std.proofs.shelf.Tests.{leb-true}
 use Rattle.bytes.proofs.Hexed.{bytes-from}
 use Rattle.line_store.specs.Texts.{lineThen}
 use Rattle.line_store.specs.Held.{textIn}
+use Rattle.line_store.proofs.Telling.{held-lawful}
 use Rattle.line_store.proofs.Writing.{text-grown, line-is-text, line-with}
 use Rattle.line_store.proofs.lines.Lines.add.Needs as need
 
@@ -21,10 +22,12 @@ returns c =
     let u = take end (c .write-line-self .last .buffer) in
     let y = bytes-from body (λ i. omega (arith, c .typed .body i)) in
     let g : u ≡ textIn s ++ lineThen (name, body) [] = text-grown (s .buffer .now) (c .write-line-self .last .buffer) name body (s .used) end (c .pre .0 .within) (w .end) (w .after) in
+    let read = line-is-text (textIn s) u name body (c .pre .0 .told) g (c .pre .1 .0) (c .pre .1 .1) y (c .pre .2) in
     record {
       sound = record {
         within = omega (arith, c .write-line-self .kept .buffer, room, w .end);
-        told = line-is-text (textIn s) u name body (c .pre .0 .told) g (c .pre .1 .0) (c .pre .1 .1) y (c .pre .2);
+        told = read;
+        lawful = held-lawful u read;
       };
       meaning = line-with (textIn s) u name body (c .pre .0 .told) g (c .pre .1 .0) (c .pre .1 .1) y (c .pre .2);
       appended = record { used-is = w .end; buffer-is = w .after };

@@ -10,7 +10,7 @@ use Rattle.std.proofs.shelf.Lists.{take-more-set, length-set}
 use Rattle.std.specs.Options.{isSome}
 use Rattle.bytes.proofs.Hexed.{bytes-from}
 use Rattle.store.specs.Entries.{lookUp, sound}
-use Rattle.store.proofs.Looking.{sound-push, look-push}
+use Rattle.store.proofs.Looking.{sound-push, look-push, lawful}
 use Rattle.table_store.specs.Blocks.{entriesIn, size}
 use Rattle.table_store.specs.Held.{rowsOf, entriesOf}
 use Rattle.table_store.specs.declared.table.Row.{Row}
@@ -33,12 +33,14 @@ returns c =
     let rows : take (t .count + 1) (set (t .rows .now) (t .count) row) ≡ rowsOf t ++ row ∷ [] = take-more-set (t .rows .now) (t .count) row free in
     let es : entriesIn (take (t .count + 1) (set (t .rows .now) (t .count) row)) block ≡ entriesOf t ++ (name, body) ∷ [] =
     ap (λ z. entriesIn z block) rows ∙ ap (entriesIn (rowsOf t ++ row ∷ [])) (w .after) ∙ entries-push (rowsOf t) row (t .block .now) name body (t .filled) (s .filled-is) (s .within) refl refl in
+    let still = ap sound es ∙ sound-push (entriesOf t) (name, body) (s .told) (and-from _ _ (c .pre .1 .0) (and-from _ _ (le-leb _ _ (c .pre .1 .1)) y)) (ap isSome (c .pre .2)) in
     record {
       sound = record {
         counted = omega (arith, length-set (t .rows .now) (t .count) row);
         filled-is = w .end ∙ (omega (arith, s .filled-is, size-append (rowsOf t) (row ∷ []), ap size rows));
         within = omega (arith, w .end, c .put-entry-self .kept .block);
-        told = ap sound es ∙ sound-push (entriesOf t) (name, body) (s .told) (and-from _ _ (c .pre .1 .0) (and-from _ _ (le-leb _ _ (c .pre .1 .1)) y)) (ap isSome (c .pre .2));
+        told = still;
+        lawful = lawful (entriesIn (take (t .count + 1) (set (t .rows .now) (t .count) row)) block) still;
       };
       meaning = ap lookUp es ∙ look-push (entriesOf t) name body (ap isSome (c .pre .2));
       added = record { count-is = refl; filled-is = w .end; rows-are = refl; block-is = w .after };
