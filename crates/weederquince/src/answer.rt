@@ -33,13 +33,18 @@ impl Answer {
         self.raw(text.as_bytes())
     }
 
-    // The bytes as the last word of a line: `x:` and their digits.
-    pub fn hex_line(&mut self, bytes: &[u8]) -> Result<(), AllocError> {
+    // The digits of the bytes, as the end of a line.
+    pub fn digits_line(&mut self, bytes: &[u8]) -> Result<(), AllocError> {
         let mut digits = vec![in self.heap; 0; bytes.len().saturating_mul(2)]?;
         hex::write(digits.as_mut_slice(), bytes);
-        self.text("x:")?;
         self.raw(digits.as_slice())?;
         self.text("\n")
+    }
+
+    // The bytes as the last word of a line: `x:` and their digits.
+    pub fn hex_line(&mut self, bytes: &[u8]) -> Result<(), AllocError> {
+        self.text("x:")?;
+        self.digits_line(bytes)
     }
 
     pub fn line(&mut self, text: &str) -> Result<(), AllocError> {

@@ -1,5 +1,6 @@
 // Weederquince: reads a script on standard input, a call a line, and answers each call.
 mod answer;
+mod key_calls;
 mod mistake;
 mod opening;
 mod script;

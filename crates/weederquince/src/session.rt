@@ -1,5 +1,6 @@
 // Running a script: each line is a call, and each call has its answer.
 use crate::answer::Answer;
+use crate::key_calls;
 use crate::mistake::Mistake;
 use crate::mistake::Trouble;
 use crate::mistake::TroubleFromAllocError;
@@ -103,10 +104,11 @@ fn reply<T: Target>(
     }
     let mut words = Words::new(line);
     let verb = words.verb()?;
-    if let Verb::Open = verb {
-        return opening::open(&mut words, answer);
+    match verb {
+        Verb::Open => return opening::open(&mut words, answer),
+        Verb::Hash => key_calls::hash(&mut words, answer)?,
+        _ => target.answer(verb, &mut words, answer)?,
     }
-    target.answer(verb, &mut words, answer)?;
     Ok(None)
 }
 

@@ -76,6 +76,6 @@ fn answer_store<S: Store + Listing>(
         Verb::Has => store_calls::has(store, words, answer),
         Verb::Fits => store_calls::fits(store, words, answer),
         Verb::Entries => store_calls::entries(store, words, answer),
-        Verb::Open | Verb::Text => Err(Mistake::UnknownCall.into()),
+        Verb::Open | Verb::Text | Verb::Hash => Err(Mistake::UnknownCall.into()),
     }
 }

@@ -8,9 +8,10 @@ pub enum Verb {
     Fits,
     Entries,
     Text,
+    Hash,
 }
 
-const VERBS: [(&[u8], Verb); 7] = [
+const VERBS: [(&[u8], Verb); 8] = [
     (b"open", Verb::Open),
     (b"file", Verb::File),
     (b"get", Verb::Get),
@@ -18,6 +19,7 @@ const VERBS: [(&[u8], Verb); 7] = [
     (b"fits", Verb::Fits),
     (b"entries", Verb::Entries),
     (b"text", Verb::Text),
+    (b"hash", Verb::Hash),
 ];
 
 // The call of this name.

@@ -1,0 +1,3 @@
+pub mod Rounds
+mod Hashing
+pub mod Sizes
