@@ -1,15 +1,5 @@
 // Weederquince: reads a script on standard input, a call a line, and answers each call.
-mod answer;
-mod key_calls;
-mod mistake;
-mod opening;
-mod script;
-mod session;
-mod store_calls;
-mod target;
-mod verb;
-mod words;
-
+use console::session;
 use std::error::AnyError;
 use std::io::Read;
 
