@@ -19,11 +19,14 @@ pub enum Opening {
 
 // open line SIZE [TEXT], or open table ROWS BYTES
 pub fn open(words: &mut Words, answer: &mut Answer) -> Result<Option<Opening>, Trouble> {
-    let kind = words.wanted()?;
+    let kind = words.word();
     if kind == b"line" {
         open_line(words, answer)
     } else if kind == b"table" {
         open_table(words, answer)
+    } else if kind.is_empty() {
+        words.end()?;
+        Ok(None)
     } else {
         Err(Mistake::UnknownStore.into())
     }
@@ -31,17 +34,22 @@ pub fn open(words: &mut Words, answer: &mut Answer) -> Result<Option<Opening>, T
 
 // The text is tried in memory of its own, so that a refusal leaves the open store as it is.
 fn open_line(words: &mut Words, answer: &mut Answer) -> Result<Option<Opening>, Trouble> {
-    let size = words.number()?;
-    let text = words.last_bytes_or_none(answer.heap())?;
+    let size = words.number();
+    let text = if words.more() {
+        words.bytes()
+    } else {
+        Vec::new(words.heap())
+    };
+    words.end()?;
     let used = text.len();
-    let mut buffer = filled(answer.heap(), size, text.as_slice())?;
+    let mut buffer = filled(words.heap(), size, text.as_slice())?;
     match LineStore::new(buffer.as_mut_slice()).open(used) {
         Ok(()) => {
-            answer.line("opened")?;
+            answer.line("opened");
             Ok(Some(Opening::Line { buffer, used }))
         }
         Err(refusal) => {
-            answer.refused(refusal.number())?;
+            answer.refused(refusal.number());
             Ok(None)
         }
     }
@@ -57,10 +65,11 @@ fn filled(heap: Global, size: usize, text: &[u8]) -> Result<Vec<u8>, AllocError>
 }
 
 fn open_table(words: &mut Words, answer: &mut Answer) -> Result<Option<Opening>, Trouble> {
-    let count = words.number()?;
-    let bytes = words.last_number()?;
-    let rows = vec![in answer.heap(); Row { name: 0, body: 0 }; count]?;
-    let block = vec![in answer.heap(); 0; bytes]?;
-    answer.line("opened")?;
+    let count = words.number();
+    let bytes = words.number();
+    words.end()?;
+    let rows = vec![in words.heap(); Row { name: 0, body: 0 }; count]?;
+    let block = vec![in words.heap(); 0; bytes]?;
+    answer.line("opened");
     Ok(Some(Opening::Table { rows, block }))
 }

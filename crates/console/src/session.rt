@@ -1,10 +1,7 @@
 // Running a script: each line is a call, and each call has its answer.
 use crate::answer::Answer;
 use crate::key_calls;
-use crate::mistake::Mistake;
 use crate::mistake::Trouble;
-use crate::mistake::TroubleFromAllocError;
-use crate::mistake::TroubleFromMistake;
 use crate::opening;
 use crate::opening::Opening;
 use crate::script::Script;
@@ -17,6 +14,7 @@ use crate::verb::Verb;
 use crate::words::Words;
 use line_store::LineStore;
 use std::alloc::AllocError;
+use std::alloc::Global;
 use std::error::AnyError;
 use std::io::Write;
 use table_store::TableStore;
@@ -67,8 +65,8 @@ fn serve<T: Target>(
             break;
         };
         let mut answer = Answer::new(rt.alloc());
-        let opened = settle(line, script.line_number(), target, &mut answer)?;
-        rt.stdout().write_all(answer.as_slice())?;
+        let opened = settle(rt.alloc(), line, script.line_number(), target, &mut answer)?;
+        rt.stdout().write_all(answer.finish()?)?;
         if opened.is_some() {
             return Ok(opened);
         }
@@ -78,15 +76,19 @@ fn serve<T: Target>(
 
 // Answers a line, with a message where it is no call.
 fn settle<T: Target>(
+    heap: Global,
     line: &[u8],
     line_number: usize,
     target: &mut T,
     answer: &mut Answer,
 ) -> Result<Option<Opening>, AllocError> {
-    match reply(line, target, answer) {
+    match reply(heap, line, target, answer) {
         Ok(opened) => Ok(opened),
         Err(Trouble::Script(mistake)) => {
-            explain(line_number, mistake, answer)?;
+            answer.text("line ");
+            answer.number(line_number);
+            answer.text(": ");
+            answer.line(mistake.message());
             Ok(None)
         }
         Err(Trouble::Memory(error)) => Err(error),
@@ -95,6 +97,7 @@ fn settle<T: Target>(
 
 // Answers a call. An empty line and a comment are passed over.
 fn reply<T: Target>(
+    heap: Global,
     line: &[u8],
     target: &mut T,
     answer: &mut Answer,
@@ -102,18 +105,11 @@ fn reply<T: Target>(
     if let [] | [b'#', ..] = line {
         return Ok(None);
     }
-    let mut words = Words::new(line);
-    let verb = words.verb()?;
-    match verb {
+    let mut words = Words::new(heap, line);
+    match words.verb()? {
         Verb::Open => return opening::open(&mut words, answer),
         Verb::Hash => key_calls::hash(&mut words, answer)?,
-        _ => target.answer(verb, &mut words, answer)?,
+        verb => target.answer(verb, &mut words, answer)?,
     }
     Ok(None)
-}
-
-fn explain(line_number: usize, mistake: Mistake, answer: &mut Answer) -> Result<(), AllocError> {
-    let message = mistake.message();
-    let text = format!(answer.heap(), "line {line_number}: {message}\n")?;
-    answer.text(text.as_str())
 }

@@ -2,10 +2,8 @@
 use crate::answer::Answer;
 use crate::mistake::Trouble;
 use crate::mistake::TroubleFromAllocError;
-use crate::mistake::TroubleFromMistake;
 use crate::words::Words;
 use line_store::LineStore;
-use std::alloc::AllocError;
 use store::Store;
 use store::limits::BODY_MAX;
 use store::limits::NAME_MAX;
@@ -17,34 +15,37 @@ pub fn file<S: Store>(
     words: &mut Words,
     answer: &mut Answer,
 ) -> Result<(), Trouble> {
-    let name = words.bytes(answer.heap())?;
-    let body = words.last_bytes(answer.heap())?;
+    let name = words.bytes();
+    let body = words.bytes();
+    words.end()?;
     match store.file(name.as_slice(), body.as_slice()) {
-        Ok(()) => answer.line("filed")?,
-        Err(refusal) => answer.refused(refusal.number())?,
+        Ok(()) => answer.line("filed"),
+        Err(refusal) => answer.refused(refusal.number()),
     }
     Ok(())
 }
 
 // get NAME [SIZE]
 pub fn get<S: Store>(store: &S, words: &mut Words, answer: &mut Answer) -> Result<(), Trouble> {
-    let name = words.bytes(answer.heap())?;
-    let space = words.last_number_or(BODY_MAX)?;
-    Ok(show_body(store, name.as_slice(), space, answer)?)
+    let name = words.bytes();
+    let space = if words.more() {
+        words.number()
+    } else {
+        BODY_MAX
+    };
+    words.end()?;
+    let mut buffer = vec![in words.heap(); 0; space]?;
+    show_body(store, name.as_slice(), buffer.as_mut_slice(), answer);
+    Ok(())
 }
 
-fn show_body<S: Store>(
-    store: &S,
-    name: &[u8],
-    space: usize,
-    answer: &mut Answer,
-) -> Result<(), AllocError> {
-    let mut buffer = vec![in answer.heap(); 0; space]?;
-    match store.get(name, buffer.as_mut_slice()) {
+fn show_body<S: Store>(store: &S, name: &[u8], buffer: &mut [u8], answer: &mut Answer) {
+    match store.get(name, buffer) {
         Ok(len) => {
-            let start = format!(answer.heap(), "got {len} ")?;
-            answer.text(start.as_str())?;
-            answer.hex_line(&buffer.as_slice()[0..len])
+            answer.text("got ");
+            answer.number(len);
+            answer.text(" ");
+            answer.hex_line(&buffer[0..len]);
         }
         Err(refusal) => answer.refused(refusal.number()),
     }
@@ -52,22 +53,27 @@ fn show_body<S: Store>(
 
 // has NAME
 pub fn has<S: Store>(store: &S, words: &mut Words, answer: &mut Answer) -> Result<(), Trouble> {
-    let name = words.last_bytes(answer.heap())?;
-    Ok(answer.yes_or_no(store.has(name.as_slice()))?)
+    let name = words.bytes();
+    words.end()?;
+    answer.yes_or_no(store.has(name.as_slice()));
+    Ok(())
 }
 
 // fits N B
 pub fn fits<S: Store>(store: &S, words: &mut Words, answer: &mut Answer) -> Result<(), Trouble> {
-    let name_len = words.number()?;
-    let body_len = words.last_number()?;
-    Ok(answer.yes_or_no(store.fits(name_len, body_len))?)
+    let name_len = words.number();
+    let body_len = words.number();
+    words.end()?;
+    answer.yes_or_no(store.fits(name_len, body_len));
+    Ok(())
 }
 
 // text
 pub fn text(store: &LineStore, words: &mut Words, answer: &mut Answer) -> Result<(), Trouble> {
     words.end()?;
-    answer.text("text ")?;
-    Ok(answer.hex_line(store.text())?)
+    answer.text("text ");
+    answer.hex_line(store.text());
+    Ok(())
 }
 
 // entries
@@ -77,13 +83,14 @@ pub fn entries<S: Store + Listing>(
     answer: &mut Answer,
 ) -> Result<(), Trouble> {
     words.end()?;
-    let mut body = vec![in answer.heap(); 0; BODY_MAX]?;
+    let mut body = vec![in words.heap(); 0; BODY_MAX]?;
     for index in 0..usize::MAX {
-        if !show_entry(store, index, body.as_mut_slice(), answer)? {
+        if !show_entry(store, index, body.as_mut_slice(), answer) {
             break;
         }
     }
-    Ok(answer.line("end")?)
+    answer.line("end");
+    Ok(())
 }
 
 // A line for the entry at `index`; false past the last one.
@@ -92,16 +99,16 @@ fn show_entry<S: Store + Listing>(
     index: usize,
     body: &mut [u8],
     answer: &mut Answer,
-) -> Result<bool, AllocError> {
+) -> bool {
     let mut name = [0; NAME_MAX];
     let Some(name_len) = store.name_at(index, &mut name) else {
-        return Ok(false);
+        return false;
     };
-    answer.text("entry ")?;
-    answer.raw(&name[0..name_len])?;
-    answer.text(" ")?;
+    answer.text("entry ");
+    answer.raw(&name[0..name_len]);
+    answer.text(" ");
     if let Ok(len) = store.get(&name[0..name_len], body) {
-        answer.hex_line(&body[0..len])?;
+        answer.hex_line(&body[0..len]);
     }
-    Ok(true)
+    true
 }

@@ -9,16 +9,28 @@ use bytes::hex;
 use bytes::search::seek;
 use std::alloc::Global;
 
-// The words of a line that are still to come.
+// The words of a line that are still to come, and the first trouble that was met with those before.
+// A word that is not as it was wanted reads as no bytes, or as 0; `end` tells.
 #[derive(Drop)]
 pub struct Words<'a> {
+    heap: Global,
     line: &'a [u8],
     at: usize,
+    trouble: Option<Trouble>,
 }
 
 impl<'a> Words<'a> {
-    pub fn new(line: &'a [u8]) -> Words<'a> {
-        Words { line, at: 0 }
+    pub fn new(heap: Global, line: &'a [u8]) -> Words<'a> {
+        Words {
+            heap,
+            line,
+            at: 0,
+            trouble: None,
+        }
+    }
+
+    pub fn heap(&self) -> Global {
+        self.heap
     }
 
     // The next word, which is empty where two spaces stand together.
@@ -33,75 +45,73 @@ impl<'a> Words<'a> {
         Some(&line[from..end])
     }
 
-    // The call that the next word names.
-    pub fn verb(&mut self) -> Result<Verb, Mistake> {
-        let word = self.wanted()?;
-        let Some(verb) = verb_of(word) else {
-            return Err(Mistake::UnknownCall);
-        };
-        Ok(verb)
+    // Keeps the first trouble.
+    fn note(&mut self, trouble: Trouble) {
+        if self.trouble.is_none() {
+            self.trouble = Some(trouble);
+        }
     }
 
     // The next word, which has to be there.
-    pub fn wanted(&mut self) -> Result<&'a [u8], Mistake> {
+    pub fn word(&mut self) -> &'a [u8] {
         match self.next() {
-            Some([]) => Err(Mistake::EmptyWord),
-            Some(word) => Ok(word),
-            None => Err(Mistake::MissingWord),
+            Some([]) => {
+                self.note(Mistake::EmptyWord.into());
+                b""
+            }
+            Some(word) => word,
+            None => {
+                self.note(Mistake::MissingWord.into());
+                b""
+            }
         }
     }
 
     // The bytes that the next word stands for.
-    pub fn bytes(&mut self, heap: Global) -> Result<Vec<u8>, Trouble> {
-        spelt(heap, self.wanted()?)
-    }
-
-    pub fn number(&mut self) -> Result<usize, Mistake> {
-        number_of(self.wanted()?)
-    }
-
-    // The number that comes last, or this one.
-    pub fn last_number_or(&mut self, n: usize) -> Result<usize, Mistake> {
-        if !self.more() {
-            return Ok(n);
-        }
-        let number = self.number()?;
-        self.end()?;
-        Ok(number)
-    }
-
-    // The bytes of the last word.
-    pub fn last_bytes(&mut self, heap: Global) -> Result<Vec<u8>, Trouble> {
-        let word = self.wanted()?;
-        self.end()?;
-        spelt(heap, word)
-    }
-
-    // The bytes of the last word, no bytes if there is none.
-    pub fn last_bytes_or_none(&mut self, heap: Global) -> Result<Vec<u8>, Trouble> {
-        if self.more() {
-            self.last_bytes(heap)
-        } else {
-            Ok(Vec::new(heap))
+    pub fn bytes(&mut self) -> Vec<u8> {
+        let word = self.word();
+        match spelt(self.heap, word) {
+            Ok(bytes) => bytes,
+            Err(trouble) => {
+                self.note(trouble);
+                Vec::new(self.heap)
+            }
         }
     }
 
-    // The last number.
-    pub fn last_number(&mut self) -> Result<usize, Mistake> {
-        let number = self.number()?;
-        self.end()?;
-        Ok(number)
+    pub fn number(&mut self) -> usize {
+        let word = self.word();
+        match number_of(word) {
+            Some(n) => n,
+            None => {
+                self.note(Mistake::NotANumber.into());
+                0
+            }
+        }
+    }
+
+    // The call that the next word names.
+    pub fn verb(&mut self) -> Result<Verb, Trouble> {
+        let word = self.word();
+        match (self.trouble, verb_of(word)) {
+            (Some(trouble), _) => Err(trouble),
+            (None, Some(verb)) => Ok(verb),
+            (None, None) => Err(Mistake::UnknownCall.into()),
+        }
     }
 
     // Whether a word is still to come.
-    fn more(&self) -> bool {
+    pub fn more(&self) -> bool {
         self.at <= self.line.len()
     }
 
-    // There has to be no further word.
-    pub fn end(&self) -> Result<(), Mistake> {
+    // All words were as they were wanted, and there is none left.
+    pub fn end(&self) -> Result<(), Trouble> {
+        if let Some(trouble) = self.trouble {
+            return Err(trouble);
+        }
         if self.more() {
-            Err(Mistake::ExtraWord)
+            Err(Mistake::ExtraWord.into())
         } else {
             Ok(())
         }
@@ -121,15 +131,12 @@ fn spelt(heap: Global, word: &[u8]) -> Result<Vec<u8>, Trouble> {
     Ok(bytes)
 }
 
-fn number_of(word: &[u8]) -> Result<usize, Mistake> {
+fn number_of(word: &[u8]) -> Option<usize> {
     let mut n: usize = 0;
     for b in word {
-        let Some(more) = with_digit(n, *b) else {
-            return Err(Mistake::NotANumber);
-        };
-        n = more;
+        n = with_digit(n, *b)?;
     }
-    Ok(n)
+    Some(n)
 }
 
 // The number with one more decimal digit behind it.
