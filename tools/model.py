@@ -3,7 +3,8 @@
 
     model.py < SCRIPT
 
-Written from docs/PROGRAM.md and docs/FORMATS.md, in the plainest way, and never from the Rattle code.
+Plain Python that shares no code with the program. It is not an independent witness: the same author wrote both,
+and its order of mistakes on a line was once changed to the program's. It guards against slips, not misreadings.
 """
 import hashlib
 import re
