@@ -11,7 +11,7 @@ returns-then-not-is-byte c =
 
 pub loop-i-preserved : goal.loop-i-preserved
 loop-i-preserved c =
-    (is_hex_more c.args.text.now c.loop-i.i c.loop-i.invariant.0 (omega arith) (sym c.is-byte.ensures ∙ c.if-not-is-byte.false), omega arith)
+    (is_hex_more c.args.text.now c.loop-i.i c.loop-i.invariant.0 (omega arith) (sym c.is_byte.ensures ∙ c.if-not-is_byte.false), omega arith)
 
 pub returns : goal.returns
 returns c = sym (is_hex_all c.args.text.now c.loop-i.i c.loop-i.invariant.0 (omega arith))

@@ -7,4 +7,4 @@ pub returns-then-at-bytes : goal.returns-then-at-bytes
 returns-then-at-bytes c = sym (ap number (drop_all c.args.at c.args.bytes.now (omega arith)))
 
 pub returns : goal.returns
-returns c = c.leading-number.ensures ∙ ap number (take_rest c.args.bytes.now c.args.at)
+returns c = c.leading_number.ensures ∙ ap number (take_rest c.args.bytes.now c.args.at)

@@ -6,9 +6,9 @@ pub returns : goal.returns
 returns g c =
     let hw : length c.args.w ≡ 16 = omega arith in
     sixteen_words (λ i. get_or c.args.w i 0) _ _ _ _ _ _ _ _ _ _ _ _ _ _ _ _
-    c.schedule-word-x0.ensures
-    c.schedule-word-x1.ensures
-    c.schedule-word-x2.ensures
+    c.schedule_word-x0.ensures
+    c.schedule_word-x1.ensures
+    c.schedule_word-x2.ensures
     c.schedule-word-x3.ensures
     c.schedule-word-x4.ensures
     c.schedule-word-x5.ensures

@@ -6,9 +6,9 @@ pub returns : goal.returns
 returns c =
     let h : length c.args.s ≡ 8 = grind arith in
     state_bytes_are c.args.s _ _ _ _ _ _ _ _ h
-    c.to-be-bytes-b0.ensures
-    c.to-be-bytes-b1.ensures
-    c.to-be-bytes-b2.ensures
+    c.to_be_bytes-b0.ensures
+    c.to_be_bytes-b1.ensures
+    c.to_be_bytes-b2.ensures
     c.to-be-bytes-b3.ensures
     c.to-be-bytes-b4.ensures
     c.to-be-bytes-b5.ensures

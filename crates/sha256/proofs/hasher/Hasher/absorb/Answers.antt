@@ -7,6 +7,6 @@ pub returns : goal.returns
 returns c = record {
   hashes = λ bs w.
       whole_more c.args.self.now.state c.compress-self.result c.args.self.now.block c.args.self.now.filled c.args.self.now.total c.args.whole.now bs c.requires.0 c.requires.1
-      (c.compress-self.ensures ∙ ap (compress c.args.self.now.state) c.block-words.ensures) w;
+      (c.compress-self.ensures ∙ ap (compress c.args.self.now.state) c.block_words.ensures) w;
   filled = c.requires.0;
 }

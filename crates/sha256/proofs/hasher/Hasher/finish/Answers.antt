@@ -10,14 +10,14 @@ loop-z-init c bs w = subst (λ x. Holds c.push.new.self.state c.push.new.self.bl
 pub loop-z-preserved : goal.loop-z-preserved
 loop-z-preserved c bs w =
     subst (λ x. Holds c.push-in-loop-z.new.self.state c.push-in-loop-z.new.self.block c.push-in-loop-z.new.self.filled c.push-in-loop-z.new.self.total x)
-    (append_assoc bs (replicate c.loop-z.-z 0) (0 ∷ []) ∙ ap (λ x. bs ++ x) (replicate_more c.loop-z.-z 0))
-    (c.push-in-loop-z.ensures.hashes (bs ++ replicate c.loop-z.-z 0) (c.loop-z.invariant bs w))
+    (append_assoc bs (replicate c.loop-z._z 0) (0 ∷ []) ∙ ap (λ x. bs ++ x) (replicate_more c.loop-z._z 0))
+    (c.push-in-loop-z.ensures.hashes (bs ++ replicate c.loop-z._z 0) (c.loop-z.invariant bs w))
 
 pub returns : goal.returns
 returns c bs w =
     let hb : length c.args.self.block ≡ 64 = grind arith in
-    let hz : c.loop-z.-z ≡ (119 - c.args.self.filled) % 64 = grind arith in
-    let p = padded _ _ _ _ _ c.loop-z.-z bs c.to-be-bytes.result hb c.args.self.room w hz refl c.to-be-bytes.ensures in
+    let hz : c.loop-z._z ≡ (119 - c.args.self.filled) % 64 = grind arith in
+    let p = padded _ _ _ _ _ c.loop-z._z bs c.to_be_bytes.result hb c.args.self.room w hz refl c.to_be_bytes.ensures in
     c.state-bytes.ensures
     ∙ finished _ _ _ _ bs _ c.push-all.new.self.room p
     (c.push-all.ensures.hashes _ (c.loop-z.invariant _ (c.push.ensures.hashes bs w)))

@@ -8,7 +8,7 @@ returns-then-self-eq63 c =
     let h : length c.args.self.now.block ≡ 64 = grind arith in
     let e : c.args.self.now.filled ≡ 63 = grind arith in
     record {
-      hashes = λ bs w. block_more _ _ _ _ _ _ bs h e (c.compress-self.ensures ∙ ap (compress c.args.self.now.state) c.block-words.ensures) w;
+      hashes = λ bs w. block_more _ _ _ _ _ _ bs h e (c.compress-self.ensures ∙ ap (compress c.args.self.now.state) c.block_words.ensures) w;
       filled = omega arith;
     }
 

@@ -18,7 +18,7 @@ returns c bs w =
     let more = c.args.more.now in
     let gap = (64 - c.args.self.now.filled) % 64 in
     let end = length more - (length more - gap) % 64 in
-    subst (λ x. Hashes c.push-all-3.new.self x)
+    subst (λ x. Hashes c.push_all-3.new.self x)
     (ap (λ z. ((bs ++ take z more) ++ take (end - gap) (drop gap more)) ++ take (length more - end) (drop end more)) (omega arith)
     ∙ ap (λ z. ((bs ++ take gap more) ++ take (end - gap) (drop gap more)) ++ z) (take_rest more end) ∙ three_parts bs more gap end (omega arith) (omega arith))
-    (c.push-all-3.ensures.hashes _ (c.absorb-all.ensures _ (c.push-all-2.ensures.hashes bs w)))
+    (c.push_all-3.ensures.hashes _ (c.absorb_all.ensures _ (c.push_all-2.ensures.hashes bs w)))
