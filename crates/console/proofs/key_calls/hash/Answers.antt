@@ -6,5 +6,5 @@ use Rattle.console.proofs.key_calls.hash.Goals as goal
 
 pub returns : goal.returns
 returns c =
-    subst (λ v. Adds c.args.answer.now c.digits-line.new.self (codes "sha256 " ++ line_of (hex v))) c.digest.ensures
-    (adds_both _ _ _ _ _ c.text.ensures c.digits-line.ensures)
+    subst (λ v. Adds c.args.answer.now c.digits_line.new.self (codes "sha256 " ++ line_of (hex v))) c.digest.ensures
+    (adds_both _ _ _ _ _ c.text.ensures c.digits_line.ensures)

@@ -15,7 +15,7 @@ returns-in-Ok g c =
     let long : len ≡ length body = e.long.0 in
     let shown : take (len - 0) c.get.new.out ≡ body =
     ap (take (len - 0)) e.after ∙ take_at body (drop (length body) out) (len - 0) (sym long ∙ (omega arith)) in
-    subst (λ n. Adds c.args.answer.now c.hex-line.new.self (got body n)) e.answer
-    (subst (λ v. Adds c.args.answer.now c.hex-line.new.self (codes "got " ++ (decimal (length body) ++ (codes " " ++ coded v)))) shown
-    (subst (λ n. Adds c.args.answer.now c.hex-line.new.self (codes "got " ++ (decimal n ++ (codes " " ++ coded (take (len - 0) c.get.new.out))))) long
-    (adds_both _ _ _ _ _ c.text.ensures (adds_both _ _ _ _ _ c.number.ensures (adds_both _ _ _ _ _ c.text_in-Ok.ensures c.hex-line.ensures)))))
+    subst (λ n. Adds c.args.answer.now c.hex_line.new.self (got body n)) e.answer
+    (subst (λ v. Adds c.args.answer.now c.hex_line.new.self (codes "got " ++ (decimal (length body) ++ (codes " " ++ coded v)))) shown
+    (subst (λ n. Adds c.args.answer.now c.hex_line.new.self (codes "got " ++ (decimal n ++ (codes " " ++ coded (take (len - 0) c.get.new.out))))) long
+    (adds_both _ _ _ _ _ c.text.ensures (adds_both _ _ _ _ _ c.number.ensures (adds_both _ _ _ _ _ c.text_in-Ok.ensures c.hex_line.ensures)))))

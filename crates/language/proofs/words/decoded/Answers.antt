@@ -7,11 +7,11 @@ use Rattle.language.proofs.words.decoded.Goals as goal
 pub returns-in-Ok : goal.returns-in-Ok
 returns-in-Ok c =
     let s = c.args.digits.now in
-    let out = c.as-mut-slice.result.now in
+    let out = c.as_mut_slice.result.now in
     let written = c.read.new.out in
-    let h : is_hex s ≡ true = sym c.is-hex.ensures ∙ c.if-not-is-hex.false in
+    let h : is_hex s ≡ true = sym c.is_hex.ensures ∙ c.if-not-is_hex.false in
     let half : c.in-Ok.bytes.len ≡ length s / 2 = c.in-Ok.ensures.made.1 in
-    let long : length s ≡ 2 * length out = omega (arith, c.as-mut-slice.ensures.len, half, hex_long s h) in
+    let long : length s ≡ 2 * length out = omega (arith, c.as_mut_slice.ensures.len, half, hex_long s h) in
     let e : written ≡ unhex s = c.read.ensures ∙ unhex_fills out s long in
     let n : length written ≡ c.in-Ok.bytes.len = omega (arith, ap length e, length-unhex s, half) in
     let t = take_at written (drop (length written) c.in-Ok.bytes.items) c.in-Ok.bytes.len n ∙ e in

@@ -8,5 +8,5 @@ pub returns : goal.returns
 returns c =
     let s = c.args.self.now in
     let told = is_text_entries (text_in s.lines) s.told in
-    let n = c.copy-name.ensures (entries_of (text_in s.lines)) (told.0 ∙ sym c.text.ensures.text) told.1 in
+    let n = c.copy_name.ensures (entries_of (text_in s.lines)) (told.0 ∙ sym c.text.ensures.text) told.1 in
     record { there = n.there; long = n.long; after = n.after_is }

@@ -12,16 +12,16 @@ use Rattle.line_store.proofs.edit.copy_name.Goals as goal
 
 pub returns-then-at-text : goal.returns-then-at-text
 returns-then-at-text c es e s =
-    let n = no_more c.args.text.now c.line-start-at.result c.args.index es c.line-start-at.ensures e (omega arith) in
+    let n = no_more c.args.text.now c.line_start-at.result c.args.index es c.line_start-at.ensures e (omega arith) in
     record { there = sym (le-ltb _ _ n); long = n; after_is = sym (ap (λ z. over z.0 c.args.out.now) (get_or_past es c.args.index _ n)) }
 
 pub slice-bounds-read-end : goal.slice-bounds-read-end
 slice-bounds-read-end c =
     let text = c.args.text.now in
     let told = c.requires.0 in
-    let at = c.line-start-at.result in
+    let at = c.line_start-at.result in
     let space = c.seek-space.result in
-    let start = c.line-start-at.ensures in
+    let start = c.line_start-at.ensures in
     let inside : at < length text = omega (arith, start.within) in
     let n = name_there text at c.args.index space start inside c.seek-space.ensures.is told.0 told.1.0 in
     let l = name_length text at c.args.index space start inside c.seek-space.ensures.is told.0 told.1.0 in
@@ -34,9 +34,9 @@ pub returns : goal.returns
 returns c es e s =
     let text = c.args.text.now in
     let out = c.args.out.now in
-    let at = c.line-start-at.result in
+    let at = c.line_start-at.result in
     let space = c.seek-space.result in
-    let start = c.line-start-at.ensures in
+    let start = c.line_start-at.ensures in
     let inside : at < length text = omega (arith, start.within) in
     let n = name_there text at c.args.index space start inside c.seek-space.ensures.is es e in
     let l = name_length text at c.args.index space start inside c.seek-space.ensures.is es e in

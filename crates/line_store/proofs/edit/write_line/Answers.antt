@@ -11,17 +11,17 @@ returns c =
     let name = c.args.name.now in
     let body = c.args.body.now in
     let at = c.args.at in
-    let space = c.put-hex-space.result in
-    let feed = c.put-hex-feed.result in
-    let n = c.put-hex-space.ensures in
-    let b = c.put-hex-feed.ensures in
+    let space = c.put_hex-space.result in
+    let feed = c.put_hex-feed.result in
+    let n = c.put_hex-space.ensures in
+    let b = c.put_hex-feed.ensures in
     let fits : feed < length t = omega (arith, n.end, b.end, c.requires) in
     let first : at ≤ length t = omega (arith, c.requires) in
     let es : space + 1 ≡ space + 1 = omega arith in
-    let written : c.put-hex-space.new.buffer ≡ over (take at t ++ hex name) t = n.after (take at t) t (at_long t name body at space (space + 1) feed fits n.end es b.end) (over-take at t first) in
-    let spaced : set c.put-hex-space.new.buffer space 0x20 ≡ over ((take at t ++ hex name) ++ 0x20 ∷ []) t = space_written t name body at space (space + 1) feed fits n.end es b.end c.put-hex-space.new.buffer written in
+    let written : c.put_hex-space.new.buffer ≡ over (take at t ++ hex name) t = n.after (take at t) t (at_long t name body at space (space + 1) feed fits n.end es b.end) (over-take at t first) in
+    let spaced : set c.put_hex-space.new.buffer space 0x20 ≡ over ((take at t ++ hex name) ++ 0x20 ∷ []) t = space_written t name body at space (space + 1) feed fits n.end es b.end c.put_hex-space.new.buffer written in
     record {
       end = omega (arith, n.end, b.end);
-      after = line_written t name body at space (space + 1) feed fits n.end es b.end c.put-hex-feed.new.buffer
+      after = line_written t name body at space (space + 1) feed fits n.end es b.end c.put_hex-feed.new.buffer
           (b.after ((take at t ++ hex name) ++ 0x20 ∷ []) t (space_put_long t name body at space (space + 1) feed fits n.end es b.end) spaced);
     }

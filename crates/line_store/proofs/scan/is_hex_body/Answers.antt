@@ -4,7 +4,7 @@ use Rattle.store.specs.Meanings.{is_body}
 use Rattle.line_store.proofs.Reading.{body_short}
 use Rattle.line_store.proofs.scan.is_hex_body.Goals as goal
 
-pub returns-then-is-hex : goal.returns-then-is-hex
-returns-then-is-hex c =
+pub returns-then-is_hex : goal.returns-then-is_hex
+returns-then-is_hex c =
     let t = c.args.text.now in
-    body_short t (sym c.if-is-hex.ensures) ∙ ap (λ z. z && is_body (unhex t)) c.if-is-hex.ensures
+    body_short t (sym c.if-is_hex.ensures) ∙ ap (λ z. z && is_body (unhex t)) c.if-is_hex.ensures

@@ -13,14 +13,14 @@ pub returns-in-default : goal.returns-in-default
 returns-in-default c =
     ((λ e. absurd (both_ways false refl e)), λ t. absurd (told_not c.args.text.now c.loop-at.at c.loop-at.invariant.1 c.loop-at-test.true c.in-default.ensures t))
 
-pub returns-then-is-some : goal.returns-then-is-some
-returns-then-is-some c =
+pub returns-then-is_some : goal.returns-then-is_some
+returns-then-is_some c =
     let text = c.args.text.now in
     let l = c.in-Some.ensures in
     let told = c.loop-at.invariant.1 in
     let e : text_of told.0 ≡ take (c.loop-at.at - 0) text = told.1.0 ∙ ap (λ z. take z text) (omega arith) in
     let s : is_some (look_up told.0 l.entry.0) ≡ true =
-    sym (found_some _ (look_up told.0 l.entry.0) c.find.result (c.find.ensures told.0 e l.entry.0 (sym l.name))) ∙ sym c.if-is-some.ensures in
+    sym (found_some _ (look_up told.0 l.entry.0) c.find.result (c.find.ensures told.0 e l.entry.0 (sym l.name))) ∙ sym c.if-is_some.ensures in
     ((λ z. absurd (both_ways false refl z)), λ t. absurd (told_twice text c.loop-at.at c.in-Some.line told c.loop-at-test.true l s t))
 
 pub loop-at-preserved : goal.loop-at-preserved
@@ -30,7 +30,7 @@ loop-at-preserved c =
     let told = c.loop-at.invariant.1 in
     let e : text_of told.0 ≡ take (c.loop-at.at - 0) text = told.1.0 ∙ ap (λ z. take z text) (omega arith) in
     let s : is_some (look_up told.0 l.entry.0) ≡ false =
-    sym (found_some _ (look_up told.0 l.entry.0) c.find.result (c.find.ensures told.0 e l.entry.0 (sym l.name))) ∙ sym c.if-is-some.ensures in
+    sym (found_some _ (look_up told.0 l.entry.0) c.find.result (c.find.ensures told.0 e l.entry.0 (sym l.name))) ∙ sym c.if-is_some.ensures in
     (omega (arith, l.within), told_more text c.loop-at.at c.in-Some.line told l s)
 
 pub returns : goal.returns

@@ -12,4 +12,4 @@ returns c =
     let part = take n c.args.name.now in
     let k : length part ≡ n = length-take-le n c.args.name.now (omega arith) in
     let full : c.read.new.out ≡ unhex text = c.read.ensures ∙ unhex_fills part text (omega arith) in
-    c.is-name.ensures ∙ ap is_name (take_at c.read.new.out _ n (ap length full ∙ (omega arith)) ∙ full)
+    c.is_name.ensures ∙ ap is_name (take_at c.read.new.out _ n (ap length full ∙ (omega arith)) ∙ full)

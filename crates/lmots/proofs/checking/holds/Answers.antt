@@ -11,9 +11,9 @@ returns-in-default c = refused sha256 _ _ _ (λ t. omega (arith, ltb-true, ltb-f
 pub returns-in-default-signature : goal.returns-in-default-signature
 returns-in-default-signature c = refused sha256 _ _ _ (λ t. omega (arith, ltb-true, ltb-false))
 
-pub returns-then-key-type-ne-TYPE : goal.returns-then-key-type-ne-TYPE
-returns-then-key-type-ne-TYPE c =
-    refused sha256 _ _ _ (λ t. let a = c.from-be-bytes-key-type.ensures in let b = c.from-be-bytes-signature-type.ensures in grind arith)
+pub returns-then-key_type-ne-TYPE : goal.returns-then-key_type-ne-TYPE
+returns-then-key_type-ne-TYPE c =
+    refused sha256 _ _ _ (λ t. let a = c.from_be_bytes-key_type.ensures in let b = c.from_be_bytes-signature_type.ensures in grind arith)
 
 pub returns : goal.returns
 returns c =

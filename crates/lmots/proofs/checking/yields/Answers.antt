@@ -13,6 +13,6 @@ returns-in-Some-candidate c =
     let found = c.in-Some-candidate.ensures in
     let tail = c.in-Some.tail.now in
     let lt : length tail ≡ 36 = omega arith in
-    agreed sha256 rest c.args.message.now c.args.parts.now (bytes c.id-words.result) tail c.in-Some-candidate.found c.leading-number.result c.eq.result
-    (c.id-words.ensures ∙ s.0) s.1 lt (omega (arith, s.2)) found.0 c.leading-number.ensures found.1
+    agreed sha256 rest c.args.message.now c.args.parts.now (bytes c.id_words.result) tail c.in-Some-candidate.found c.leading_number.result c.eq.result
+    (c.id_words.ensures ∙ s.0) s.1 lt (omega (arith, s.2)) found.0 c.leading_number.ensures found.1
     (same_from_decides _ _ (slice_eq-Decides _ _ _ c.eq.ensures) (bytes_eq-Decides c.in-Some-candidate.found (cut 4 32 tail)))

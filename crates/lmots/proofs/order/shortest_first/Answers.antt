@@ -11,7 +11,7 @@ loop-i-preserved c =
     let l : c.loop-i.i < length c.loop-i.runs = omega (arith, c.loop-i.invariant.0) in (
       length-set c.loop-i.runs c.loop-i.i _ ∙ c.loop-i.invariant.0,
       set_more (λ run k. (Runs c.args.from.now c.args.to.now run) × (run.chain ≡ k)) c.loop-i.runs c.loop-i.i _ blank l c.loop-i.invariant.1
-          (record { chained = c.loop-i-test.true; begun = refl; counted = c.saturating-sub.ensures }, refl),
+          (record { chained = c.loop-i-test.true; begun = refl; counted = c.saturating_sub.ensures }, refl),
     )
 
 pub returns : goal.returns

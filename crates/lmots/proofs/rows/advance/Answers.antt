@@ -23,8 +23,8 @@ loop-g-init c =
     let from = c.args.from.now in
     let to = c.args.to.now in
     let old = c.args.values.now in
-    let runs = c.shortest-first-runs.result in
-    let each = c.shortest-first-runs.ensures.each in (
+    let runs = c.shortest_first-runs.result in
+    let each = c.shortest_first-runs.ensures.each in (
       c.finish.array_long,
       two_first (ends I q from to old) _ _ runs
           (c.finish.ensures (ends I q from to old)
@@ -38,8 +38,8 @@ loop-g-preserved c =
     let from = c.args.from.now in
     let to = c.args.to.now in
     let old = c.args.values.now in
-    let runs = c.shortest-first-runs.result in
-    let each = c.shortest-first-runs.ensures.each in
+    let runs = c.shortest_first-runs.result in
+    let each = c.shortest_first-runs.ensures.each in
     let n = 2 + 4 * c.loop-g.g in
     let lt : c.loop-g.g < 8 = c.loop-g-test.true in (
       c.finish-in-loop-g.array_long,
@@ -54,6 +54,6 @@ pub returns : goal.returns
 returns c =
     let f : ℕ → List ℕ = ends (bytes c.args.leaf.id) c.args.leaf.number c.args.from.now c.args.to.now c.args.values.now in
     row_from c.loop-g.values f 34 c.loop-g.invariant.0 (λ i l.
-    let found = c.shortest-first-runs.ensures.all i l in
+    let found = c.shortest_first-runs.ensures.all i l in
     let lt : found.0 < 2 + 4 * c.loop-g.g = omega (arith, found.1) in
     subst (λ k. cut (32 * k) 32 c.loop-g.values ≡ f k) found.2 (c.loop-g.invariant.1 found.0 lt))

@@ -13,7 +13,7 @@ returns c end e =
     let i = c.args.run.chain in
     let at = 32 * i in
     let old = c.args.values.now in
-    let part = c.state-bytes.result in
+    let part = c.state_bytes.result in
     let whole : length old ≡ 1088 = grind arith in
     let long : length part ≡ 32 = grind arith in
     let in' : i < 34 = c.requires in
@@ -21,7 +21,7 @@ returns c end e =
     let same : 32 * c.from.result ≡ at = ap (λ z. 32 * z) c.from.ensures in
     let written : c.put.new.buffer ≡ over (take at old ++ part) old =
     c.put.ensures.written (take at old) old (over-take at old le) (length-take-le at old le ∙ sym same) (omega arith) in
-    let here : Ended end c.put.new.buffer i = ap (cut at 32) written ∙ put_here part old at le long ∙ c.state-bytes.ensures ∙ e in
+    let here : Ended end c.put.new.buffer i = ap (cut at 32) written ∙ put_here part old at le long ∙ c.state_bytes.ensures ∙ e in
     record {
       still = λ k l kept.
           ⊎_elim (λ same. ap (λ z. cut (32 * z) 32 c.put.new.buffer) same ∙ here ∙ ap end (sym same))

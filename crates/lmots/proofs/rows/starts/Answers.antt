@@ -20,12 +20,12 @@ loop-i-preserved c =
     let i = c.loop-i.i in
     let f : ℕ → List ℕ = x sha256 (bytes c.args.leaf.id) c.args.leaf.number (bytes c.args.seed) in
     let long : length (row i f) ≡ 32 * i = length-row f i (λ k _. Law.length-x sha256 sized small _ _ _ k) in
-    let part : length c.state-bytes-value.result ≡ 32 = grind arith in
+    let part : length c.state_bytes-value.result ≡ 32 = grind arith in
     let whole : length c.loop-i.values ≡ 1088 = c.loop-i.invariant.0 in
     let kept : length c.put.new.buffer ≡ length c.loop-i.values = grind arith in (
       kept ∙ whole,
       c.put.ensures.written (row i f) _ c.loop-i.invariant.1 long (omega arith)
-          ∙ row_put f i _ _ (c.state-bytes-value.ensures ∙ c.start.ensures),
+          ∙ row_put f i _ _ (c.state_bytes-value.ensures ∙ c.start.ensures),
     )
 
 pub returns : goal.returns

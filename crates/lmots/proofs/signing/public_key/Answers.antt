@@ -10,9 +10,9 @@ pub returns : goal.returns
 unfolding public_key
 returns c =
     let old : List ℕ = replicate 56 0 in
-    let i = c.id-bytes.result in
-    let q = c.to-be-bytes.result in
-    let k = c.leaf-key.result in
+    let i = c.id_bytes.result in
+    let q = c.to_be_bytes.result in
+    let k = c.leaf_key.result in
     let li : length i ≡ 16 = grind arith in
     let lq : length q ≡ 4 = grind arith in
     let lk : length k ≡ 32 = grind arith in
@@ -27,6 +27,6 @@ returns c =
     let a4 : c.put-4.new.buffer ≡ over (((u32 4 ++ i) ++ q) ++ k) old = c.put-4.ensures.written ((u32 4 ++ i) ++ q) old a3 d3 (omega arith) in
     a4 ∙ over_all (((u32 4 ++ i) ++ q) ++ k) old (omega (arith, length-append ((u32 4 ++ i) ++ q) k))
     ∙ append_assoc (u32 4 ++ i) q k ∙ append_assoc (u32 4) i (q ++ k)
-    ∙ ap (λ v. u32 4 ++ (v ++ (q ++ k))) c.id-bytes.ensures
-    ∙ ap (λ v. u32 4 ++ (bytes c.args.leaf.id ++ (v ++ k))) c.to-be-bytes.ensures
-    ∙ ap (λ v. u32 4 ++ (bytes c.args.leaf.id ++ (u32 c.args.leaf.number ++ v))) c.leaf-key.ensures
+    ∙ ap (λ v. u32 4 ++ (v ++ (q ++ k))) c.id_bytes.ensures
+    ∙ ap (λ v. u32 4 ++ (bytes c.args.leaf.id ++ (v ++ k))) c.to_be_bytes.ensures
+    ∙ ap (λ v. u32 4 ++ (bytes c.args.leaf.id ++ (u32 c.args.leaf.number ++ v))) c.leaf_key.ensures

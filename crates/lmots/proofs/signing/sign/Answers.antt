@@ -16,11 +16,11 @@ returns c =
     let I = bytes c.args.leaf.id in
     let q = c.args.leaf.number in
     let S = bytes c.args.seed in
-    let r = c.state-bytes-randomizer.result in
+    let r = c.state_bytes-randomizer.result in
     let v = c.advance.new.values in
-    let er : r ≡ C sha256 I q S = c.state-bytes-randomizer.ensures ∙ c.start.ensures in
+    let er : r ≡ C sha256 I q S = c.state_bytes-randomizer.ensures ∙ c.start.ensures in
     let ev : v ≡ row 34 (z sha256 I q S c.args.message.now) =
-    c.advance.ensures ∙ signed-row sha256 sized small I q S c.args.message.now r c.message-hash.result c.digits-ends.result _ er c.message-hash.ensures c.digits-ends.ensures c.starts-values.ensures in
+    c.advance.ensures ∙ signed-row sha256 sized small I q S c.args.message.now r c.message_hash.result c.digits-ends.result _ er c.message_hash.ensures c.digits-ends.ensures c.starts-values.ensures in
     let lr : length r ≡ 32 = grind arith in
     let lv : length v ≡ 1088 = c.advance.array_long in
     let l1 : length c.put.new.buffer ≡ 1124 = grind arith in

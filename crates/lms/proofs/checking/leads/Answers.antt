@@ -21,10 +21,10 @@ returns c =
     let found = c.in-Some-candidate.ensures in
     let lr : length (drop 4 rest) ≡ 48 = omega (arith, length-drop 4 rest, c.requires.key) in
     let whole : take 48 (drop 4 rest) ≡ drop 4 rest = take_all 48 (drop 4 rest) (omega arith) in
-    let id : bytes c.id-words-id.result ≡ cut 4 16 rest = c.id-words-id.ensures ∙ split.0 ∙ ap (take 16) whole in
+    let id : bytes c.id_words-id.result ≡ cut 4 16 rest = c.id_words-id.ensures ∙ split.0 ∙ ap (take 16) whole in
     let top : c.in-Some.top.now ≡ drop 20 rest = split.1 ∙ ap (drop 16) whole ∙ drop-drop 16 4 rest in
     let r : c.climb-root.result ≡ root sha256 h (cut 4 16 rest) q m (take 1120 parts) (drop 1124 parts) =
-    rooted sha256 (cut 4 16 rest) (bytes c.id-words-id.result) c.in-Some-candidate.key c.leaf-node-bottom.result c.climb-root.result m (take 1120 parts) (drop 1124 parts) _
-    h c.height.result q _ id found.1 (ap (λ v. v + q) c.leaves.ensures.is) c.height.ensures.is (take_rest parts 1124) c.leaf-node-bottom.ensures c.climb-root.ensures in
+    rooted sha256 (cut 4 16 rest) (bytes c.id_words-id.result) c.in-Some-candidate.key c.leaf_node-bottom.result c.climb-root.result m (take 1120 parts) (drop 1124 parts) _
+    h c.height.result q _ id found.1 (ap (λ v. v + q) c.leaves.ensures.is) c.height.ensures.is (take_rest parts 1124) c.leaf_node-bottom.ensures c.climb-root.ensures in
     same_from_decides _ _ (slice_eq-Decides _ _ _ c.eq.ensures) (bytes_eq-Decides c.climb-root.result c.in-Some.top.now)
     ∙ ap (λ v. bytes_eq v c.in-Some.top.now) r ∙ ap (bytes_eq (root sha256 h (cut 4 16 rest) q m (take 1120 parts) (drop 1124 parts))) top

@@ -15,21 +15,21 @@ returns-in-default c = refused sha256 _ _ _ (λ f. omega (arith, ltb-true, ltb-f
 pub returns-in-default-signature : goal.returns-in-default-signature
 returns-in-default-signature c = refused sha256 _ _ _ (λ f. omega (arith, ltb-true, ltb-false, f.whole))
 
-pub returns-in-default-from-number : goal.returns-in-default-from-number
-returns-in-default-from-number c =
-    let e : c.from-be-bytes.result ≡ number c.args.key.now = c.from-be-bytes.ensures in
-    refused sha256 _ _ _ (λ f. both_ways (known c.from-be-bytes.result) c.in-default-from-number.ensures (ap known e ∙ f.kind))
+pub returns-in-default-from_number : goal.returns-in-default-from_number
+returns-in-default-from_number c =
+    let e : c.from_be_bytes.result ≡ number c.args.key.now = c.from_be_bytes.ensures in
+    refused sha256 _ _ _ (λ f. both_ways (known c.from_be_bytes.result) c.in-default-from_number.ensures (ap known e ∙ f.kind))
 
-pub returns-then-leading-number-ne-ONE-TIME-TYPE : goal.returns-then-leading-number-ne-ONE-TIME-TYPE
-returns-then-leading-number-ne-ONE-TIME-TYPE c =
+pub returns-then-leading_number-ne-ONE_TIME_TYPE : goal.returns-then-leading_number-ne-ONE_TIME_TYPE
+returns-then-leading_number-ne-ONE_TIME_TYPE c =
     let key = c.args.key.now in
     let k = take_rest key 4 in
     let l = length-drop 4 key in
-    refused sha256 _ _ _ (λ f. let n : c.leading-number.result ≡ 4 = c.leading-number.ensures ∙ ap number k ∙ f.under in let w = f.long in let a = ap length k in grind arith)
+    refused sha256 _ _ _ (λ f. let n : c.leading_number.result ≡ 4 = c.leading_number.ensures ∙ ap number k ∙ f.under in let w = f.long in let a = ap length k in grind arith)
 
 pub leads-requires : goal.leads-requires
 leads-requires c =
-    let s = suits_parts (type_number c.in-Some.kind) c.from-be-bytes-leaf.result c.from-be-bytes-one-time.result _ (sym c.suits.ensures ∙ c.if-suits.true) in
+    let s = suits_parts (type_number c.in-Some.kind) c.from_be_bytes-leaf.result c.from_be_bytes-one_time.result _ (sym c.suits.ensures ∙ c.if-suits.true) in
     record { key = omega arith; long = s.1; below = s.0 }
 
 -- a number that four bytes in a signature write
@@ -42,12 +42,12 @@ returns-then-suits c =
     let sig = c.args.signature.now in
     let k = take_rest key 4 in
     let s = take_rest sig 8 in
-    let kind : type_number c.in-Some.kind ≡ number key = c.in-Some.ensures ∙ c.from-be-bytes.ensures in
-    let leaf : c.from-be-bytes-leaf.result ≡ number sig = c.from-be-bytes-leaf.ensures in
-    let under : number (drop 4 key) ≡ 4 = sym (ap number k) ∙ sym c.leading-number.ensures ∙ (omega arith) in
+    let kind : type_number c.in-Some.kind ≡ number key = c.in-Some.ensures ∙ c.from_be_bytes.ensures in
+    let leaf : c.from_be_bytes-leaf.result ≡ number sig = c.from_be_bytes-leaf.ensures in
+    let under : number (drop 4 key) ≡ 4 = sym (ap number k) ∙ sym c.leading_number.ensures ∙ (omega arith) in
     let long : length key ≡ 56 = omega (arith, ltb-true, ltb-false, ap length k, length-drop 4 key) in
     let some : 8 ≤ length sig = omega (arith, ltb-true, ltb-false) in
-    let f : Fit key sig = suits_fit key sig _ _ _ _ kind leaf (c.from-be-bytes-one-time.ensures ∙ one_time sig) s some (kinds_known c.in-Some.kind) under long (sym c.suits.ensures ∙ c.if-suits.true) in
+    let f : Fit key sig = suits_fit key sig _ _ _ _ kind leaf (c.from_be_bytes-one_time.ensures ∙ one_time sig) s some (kinds_known c.in-Some.kind) under long (sym c.suits.ensures ∙ c.if-suits.true) in
     accepted sha256 key c.args.message.now sig _ _ _ _ c.leads.result f k s kind leaf c.leads.ensures
 
 pub returns-else-suits : goal.returns-else-suits
@@ -55,8 +55,8 @@ returns-else-suits c =
     let key = c.args.key.now in
     let sig = c.args.signature.now in
     let s = take_rest sig 8 in
-    let kind : type_number c.in-Some.kind ≡ number key = c.in-Some.ensures ∙ c.from-be-bytes.ensures in
-    let leaf : c.from-be-bytes-leaf.result ≡ number sig = c.from-be-bytes-leaf.ensures in
+    let kind : type_number c.in-Some.kind ≡ number key = c.in-Some.ensures ∙ c.from_be_bytes.ensures in
+    let leaf : c.from_be_bytes-leaf.result ≡ number sig = c.from_be_bytes-leaf.ensures in
     let some : 8 ≤ length sig = omega (arith, ltb-true, ltb-false) in
     c.if-suits.false
-    ∙ refused sha256 key c.args.message.now sig (λ f. both_ways _ (sym c.suits.ensures ∙ c.if-suits.false) (fit_suits key sig _ _ _ _ kind leaf (c.from-be-bytes-one-time.ensures ∙ one_time sig) s some f))
+    ∙ refused sha256 key c.args.message.now sig (λ f. both_ways _ (sym c.suits.ensures ∙ c.if-suits.false) (fit_suits key sig _ _ _ _ kind leaf (c.from_be_bytes-one_time.ensures ∙ one_time sig) s some f))

@@ -14,9 +14,9 @@ loop-k-preserved c =
     let path = c.args.path.now in
     let l : k < c.args.height = omega arith in
     let s = cut (32 * k) 32 path in
-    let e : c.inner-node-above.result ≡ above sha256 I r t s =
-    c.inner-node-above.ensures ∙ ap (λ v. inner sha256 I (r / 2) v c.right-half-right.result.now) c.left-half-left.ensures
-    ∙ ap (inner sha256 I (r / 2) (half r s t)) c.right-half-right.ensures in (
+    let e : c.inner_node-above.result ≡ above sha256 I r t s =
+    c.inner_node-above.ensures ∙ ap (λ v. inner sha256 I (r / 2) v c.right_half-right.result.now) c.left_half-left.ensures
+    ∙ ap (inner sha256 I (r / 2) (half r s t)) c.right_half-right.ensures in (
       ap (λ v. climb sha256 I (c.args.height - (k + 1)) (r / 2) v (drop (32 * (k + 1)) path)) e
           ∙ sym (climb_more sha256 I c.args.height k r t path l) ∙ c.loop-k.invariant.0,
       grind arith,

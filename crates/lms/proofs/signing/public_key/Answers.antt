@@ -16,14 +16,14 @@ returns c S grown =
     let T = type_number c.args.kind in
     let h = height T in
     let I = bytes c.args.id in
-    let t = c.to-be-bytes.result in
-    let i = c.id-bytes.result in
+    let t = c.to_be_bytes.result in
+    let i = c.id_bytes.result in
     let n = cut 32 32 c.args.nodes.now in
     let p : 0 < 2 ^ h = pow_pos h in
     let e : h - h ≡ 0 = omega arith in
     let w : 2 ^ (h - h) ≡ 1 = ap (λ v. 2 ^ v) e in
     let top : n ≡ node sha256 h I S h 1 = grown (h, 1, omega arith, omega arith, omega arith, omega arith) in
-    let et : t ≡ u32 T = c.to-be-bytes.ensures ∙ ap u32 c.number.ensures in
+    let et : t ≡ u32 T = c.to_be_bytes.ensures ∙ ap u32 c.number.ensures in
     let lt : length t ≡ 4 = grind arith in
     let li : length i ≡ 16 = grind arith in
     let ln : length n ≡ 32 = length_cut c.args.nodes.now 32 32 (omega arith) in
@@ -39,5 +39,5 @@ returns c S grown =
     a4 ∙ over_all (((t ++ u32 4) ++ i) ++ n) old (omega (arith, length-append ((t ++ u32 4) ++ i) n))
     ∙ append_assoc (t ++ u32 4) i n ∙ append_assoc t (u32 4) (i ++ n)
     ∙ ap (λ v. v ++ (u32 4 ++ (i ++ n))) et
-    ∙ ap (λ v. u32 T ++ (u32 4 ++ (v ++ n))) c.id-bytes.ensures
+    ∙ ap (λ v. u32 T ++ (u32 4 ++ (v ++ n))) c.id_bytes.ensures
     ∙ ap (λ v. u32 T ++ (u32 4 ++ (I ++ v))) top

@@ -19,26 +19,26 @@ returns c =
     let S = bytes s.seed in
     let q = c.args.leaf in
     let r = 2 ^ h + q in
-    let b = c.to-be-bytes.result in
-    let o = c.sign-one-time.result in
-    let t = c.to-be-bytes-2.result in
+    let b = c.to_be_bytes.result in
+    let o = c.sign-one_time.result in
+    let t = c.to_be_bytes-2.result in
     let lb : length b ≡ 4 = grind arith in
     let lo : length o ≡ 1124 = grind arith in
     let lt : length t ≡ 4 = grind arith in
     let l1 : length c.put.new.buffer ≡ length old = grind arith in
     let l2 : length c.put-2.new.buffer ≡ length old = grind arith in
     let l3 : length c.put-3.new.buffer ≡ length old = grind arith in
-    let et : t ≡ u32 T = c.to-be-bytes-2.ensures ∙ ap u32 c.number.ensures in
+    let et : t ≡ u32 T = c.to_be_bytes-2.ensures ∙ ap u32 c.number.ensures in
     let a1 : c.put.new.buffer ≡ over b old = c.put.ensures.written [] old refl refl (omega arith) in
     let a2 : c.put-2.new.buffer ≡ over (b ++ o) old = c.put-2.ensures.written b old a1 lb (omega arith) in
     let d2 : length (b ++ o) ≡ 1128 = omega (arith, length-append b o) in
     let a3 : c.put-3.new.buffer ≡ over ((b ++ o) ++ t) old = c.put-3.ensures.written (b ++ o) old a2 d2 (omega arith) in
     let d3 : length ((b ++ o) ++ t) ≡ 1132 = omega (arith, length-append (b ++ o) t) in
     let p : picked s.nodes h r ≡ siblings sha256 h I S h 0 r = picked_is sha256 h I S s.nodes h 0 r (omega arith) (omega arith) (omega arith) s.grown in
-    c.put-path.ensures ((b ++ o) ++ t) old a3 d3
+    c.put_path.ensures ((b ++ o) ++ t) old a3 d3
     ∙ ap (λ v. over (((b ++ o) ++ t) ++ v) old) (ap (λ v. picked s.nodes v (c.leaves.result + q)) c.height.ensures.is ∙ ap (λ v. picked s.nodes h (v + q)) c.leaves.ensures.is ∙ p)
     ∙ ap (λ v. over v old)
     (append_assoc (b ++ o) t (siblings sha256 h I S h 0 r) ∙ append_assoc b o (t ++ siblings sha256 h I S h 0 r)
-    ∙ ap (λ v. v ++ (o ++ (t ++ siblings sha256 h I S h 0 r))) c.to-be-bytes.ensures
-    ∙ ap (λ v. u32 q ++ (v ++ (t ++ siblings sha256 h I S h 0 r))) c.sign-one-time.ensures
+    ∙ ap (λ v. v ++ (o ++ (t ++ siblings sha256 h I S h 0 r))) c.to_be_bytes.ensures
+    ∙ ap (λ v. u32 q ++ (v ++ (t ++ siblings sha256 h I S h 0 r))) c.sign-one_time.ensures
     ∙ ap (λ v. u32 q ++ (LmOts.signature sha256 I q S c.args.message.now ++ (v ++ siblings sha256 h I S h 0 r))) et)

@@ -19,7 +19,7 @@ loop-r-preserved c h e =
     let S = bytes c.args.seed in
     let xs = c.loop-r.nodes in
     let p = c.loop-r.r - 1 in
-    let n = c.node-over-node.result in
+    let n = c.node_over-node.result in
     let ln : length n ≡ 32 = grind arith in
     let lx : 65536 ≤ length xs = grind arith in
     let b = c.leaves-leaves.ensures.bounds in
@@ -30,8 +30,8 @@ loop-r-preserved c h e =
     let back : drop (32 * p + length n) c.put.new.buffer ≡ drop (32 * p + length n) xs = ap (drop (32 * p + length n)) written ∙ put_back n xs (32 * p) (omega arith) in
     let f : c.loop-r.r ≡ p + 1 = omega arith in
     grown_more sha256 h I S xs c.put.new.buffer n p (omega arith) ln at front back
-    (λ l. c.node-over-node.ensures.bottom (omega arith) ∙ ap (λ v. leaf sha256 I p (LmOts.K sha256 I (p - v) S)) e)
-    (λ l. c.node-over-node.ensures.up (omega arith))
+    (λ l. c.node_over-node.ensures.bottom (omega arith) ∙ ap (λ v. leaf sha256 I p (LmOts.K sha256 I (p - v) S)) e)
+    (λ l. c.node_over-node.ensures.up (omega arith))
     (subst (λ v. Grown sha256 h I S v xs) f (c.loop-r.invariant h e))
 
 pub returns : goal.returns

@@ -13,6 +13,6 @@ returns-else-r-leaves c =
     let b : 64 * r + 64 - (64 * r + 32) ≡ 32 = omega arith in
     record {
       bottom = λ l. absurd (omega arith);
-      up = λ l. c.inner-node.ensures ∙ ap (λ v. inner sha256 I r (take v (drop (64 * r) xs)) (take (64 * r + 64 - (64 * r + 32)) (drop (64 * r + 32) xs))) a
+      up = λ l. c.inner_node.ensures ∙ ap (λ v. inner sha256 I r (take v (drop (64 * r) xs)) (take (64 * r + 64 - (64 * r + 32)) (drop (64 * r + 32) xs))) a
           ∙ ap (λ v. inner sha256 I r (cut (64 * r) 32 xs) (take v (drop (64 * r + 32) xs))) b;
     }

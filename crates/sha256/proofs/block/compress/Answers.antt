@@ -12,6 +12,6 @@ returns c =
     ∙ sym (ap (sums c.args.h) (listed 8 c.sixteen_rounds-s4.result hs))
     ∙ compress_is _ _ _ _ _ _ _ _ _ hm
     c.sixteen_rounds-s1.ensures c.next_sixteen-m1.ensures
-    c.sixteen-rounds-s2.ensures c.next-sixteen-m2.ensures
-    c.sixteen-rounds-s3.ensures c.next-sixteen-m3.ensures
+    c.sixteen_rounds-s2.ensures c.next_sixteen-m2.ensures
+    c.sixteen_rounds-s3.ensures c.next_sixteen-m3.ensures
     c.sixteen_rounds-s4.ensures

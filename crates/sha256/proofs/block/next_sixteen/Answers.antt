@@ -9,17 +9,17 @@ returns g c =
     c.schedule_word-x0.ensures
     c.schedule_word-x1.ensures
     c.schedule_word-x2.ensures
-    c.schedule-word-x3.ensures
-    c.schedule-word-x4.ensures
-    c.schedule-word-x5.ensures
-    c.schedule-word-x6.ensures
-    c.schedule-word-x7.ensures
-    c.schedule-word-x8.ensures
-    c.schedule-word-x9.ensures
-    c.schedule-word-x10.ensures
-    c.schedule-word-x11.ensures
-    c.schedule-word-x12.ensures
-    c.schedule-word-x13.ensures
-    c.schedule-word-x14.ensures
-    c.schedule-word-x15.ensures
+    c.schedule_word-x3.ensures
+    c.schedule_word-x4.ensures
+    c.schedule_word-x5.ensures
+    c.schedule_word-x6.ensures
+    c.schedule_word-x7.ensures
+    c.schedule_word-x8.ensures
+    c.schedule_word-x9.ensures
+    c.schedule_word-x10.ensures
+    c.schedule_word-x11.ensures
+    c.schedule_word-x12.ensures
+    c.schedule_word-x13.ensures
+    c.schedule_word-x14.ensures
+    c.schedule_word-x15.ensures
     ∙ sym (ap after (listed 16 c.args.w hw))

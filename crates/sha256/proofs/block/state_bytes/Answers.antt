@@ -9,8 +9,8 @@ returns c =
     c.to_be_bytes-b0.ensures
     c.to_be_bytes-b1.ensures
     c.to_be_bytes-b2.ensures
-    c.to-be-bytes-b3.ensures
-    c.to-be-bytes-b4.ensures
-    c.to-be-bytes-b5.ensures
-    c.to-be-bytes-b6.ensures
-    c.to-be-bytes-b7.ensures
+    c.to_be_bytes-b3.ensures
+    c.to_be_bytes-b4.ensures
+    c.to_be_bytes-b5.ensures
+    c.to_be_bytes-b6.ensures
+    c.to_be_bytes-b7.ensures

@@ -18,11 +18,11 @@ returns-then-index-self c =
       after = sym (ap (λ z. over z.0 c.args.out.now) (get_or_past (entries_of t) c.args.index _ n));
     }
 
-pub copy-out-requires : goal.copy-out-requires
-copy-out-requires c =
+pub copy_out-requires : goal.copy_out-requires
+copy_out-requires c =
     let t = c.args.self.now.table in
     let n : c.args.index < length (entries_of t) = omega (arith, length-entries (rows_of t) t.block.now, length-take-le t.count t.rows.now c.args.self.now.counted) in
-    let w = c.name-span-name.ensures in
+    let w = c.name_span-name.ensures in
     let short = (name_at_short (entries_of t) c.args.index c.args.self.now.told n).0 in
     (w.within.0, w.within.1, omega (arith, ap length w.name))
 
@@ -30,8 +30,8 @@ pub returns : goal.returns
 returns c =
     let t = c.args.self.now.table in
     let n : c.args.index < length (entries_of t) = omega (arith, length-entries (rows_of t) t.block.now, length-take-le t.count t.rows.now c.args.self.now.counted) in
-    let w = c.name-span-name.ensures in
-    let r = c.copy-out.ensures in
+    let w = c.name_span-name.ensures in
+    let r = c.copy_out.ensures in
     record {
       there = sym (lt-ltb _ _ n);
       long = (r.long ∙ ap length w.name, omega (arith, r.long, ap length w.name, (name_at_short (entries_of t) c.args.index c.args.self.now.told n).0));

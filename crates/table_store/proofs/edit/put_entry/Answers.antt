@@ -16,10 +16,10 @@ returns c =
     let l = middle + length body - middle in
     let lt : length (take at t) ≡ at = length-take-le at t (omega (arith, c.requires)) in
     let ln : length (take at t ++ name) ≡ middle = length-append (take at t) name ∙ (omega arith) in
-    let first : put_mid at k t c.copy-from-slice.new.self ≡ over (take at t ++ name) t =
-    ap (put_mid at k t) c.copy-from-slice.ensures.after ∙ ap (λ z. put_mid at k z name) (over-take at t (omega (arith, c.requires))) ∙ over_put (take at t) name t at k lt (omega arith) in
+    let first : put_mid at k t c.copy_from_slice.new.self ≡ over (take at t ++ name) t =
+    ap (put_mid at k t) c.copy_from_slice.ensures.after ∙ ap (λ z. put_mid at k z name) (over-take at t (omega (arith, c.requires))) ∙ over_put (take at t) name t at k lt (omega arith) in
     record {
       end = omega arith;
-      after = ap (put_mid middle l (put_mid at k t c.copy-from-slice.new.self)) c.copy-from-slice-2.ensures.after ∙ ap (λ z. put_mid middle l z body) first
+      after = ap (put_mid middle l (put_mid at k t c.copy_from_slice.new.self)) c.copy_from_slice-2.ensures.after ∙ ap (λ z. put_mid middle l z body) first
           ∙ over_put (take at t ++ name) body t middle l ln (omega arith);
     }

@@ -16,9 +16,9 @@ returns c =
     let text = c.args.self.now.text.now in
     let long = up_to 0x0a (drop at text) in
     let end : c.seek-end.result ≡ at + long = c.seek-end.ensures.is in
-    let on : c.saturating-add-self.result ≡ at + (long + 1) = omega (arith, end, c.saturating-add-self.ensures, c.seek-end.ensures.within.1) in
+    let on : c.saturating_add-self.result ≡ at + (long + 1) = omega (arith, end, c.saturating_add-self.ensures, c.seek-end.ensures.within.1) in
     record {
       line = (omega (arith, length-drop at text), ap (λ z. take z (drop at text)) (omega (arith, end)));
       rest = ap (λ z. drop z text) on ∙ sym (drop-drop (long + 1) at text);
-      number = c.saturating-add-self-2.ensures;
+      number = c.saturating_add-self-2.ensures;
     }

@@ -13,15 +13,15 @@ returns c =
     let name = c.args.name.now in
     let body = c.args.body.now in
     let room = leb-true _ _ c.requires.3 in
-    let end = c.write-line-self.result in
-    let w = c.write-line-self.ensures in
-    let u = take end c.write-line-self.new.buffer in
+    let end = c.write_line-self.result in
+    let w = c.write_line-self.ensures in
+    let u = take end c.write_line-self.new.buffer in
     let y = bytes_from body (λ i. omega (arith, c.type-inv.body i)) in
-    let g : u ≡ text_in s ++ line_then (name, body) [] = text_grown s.buffer.now c.write-line-self.new.buffer name body s.used end c.requires.0.within w.end w.after in
+    let g : u ≡ text_in s ++ line_then (name, body) [] = text_grown s.buffer.now c.write_line-self.new.buffer name body s.used end c.requires.0.within w.end w.after in
     let read = line_is_text (text_in s) u name body c.requires.0.told g c.requires.1.0 c.requires.1.1 y c.requires.2 in
     record {
       sound = record {
-        within = omega (arith, c.write-line-self.auto.buffer, room, w.end);
+        within = omega (arith, c.write_line-self.auto.buffer, room, w.end);
         told = read;
         lawful = held_lawful u read;
       };

@@ -6,7 +6,7 @@ use Rattle.line_store.proofs.lines.Lines.open.Goals as goal
 pub returns : goal.returns
 returns c =
     let t = take c.args.used c.args.self.now.buffer.now in
-    let v = c.in-ok-check.ensures in
+    let v = c.in_ok-check.ensures in
     let told = v.1 in
     let read = told_is_text t told.0 told.1.0 told.1.1 in
     record {

@@ -16,7 +16,7 @@ returns c =
     let e : s.used ≡ s.used - 0 = omega arith in
     let h : Holds (take (s.used - 0) s.buffer.now) m c.in-Some.marks = subst (λ (z : ℕ). Holds (take z s.buffer.now) m c.in-Some.marks) e c.in-Some.ensures in
     let v = body_is (entries_of (text_in s)) (is_text_entries (text_in s) c.requires.0.told).1 c.args.name.now h.there in
-    let k = c.copy-body.ensures (body_of m) h.body v.1 in
+    let k = c.copy_body.ensures (body_of m) h.body v.1 in
     record {
       there = sym h.there;
       long = (k.0, omega (arith, k.0, v.0, c.requires.1));

@@ -18,6 +18,6 @@ returns c bs w =
     let hb : length c.args.self.block ≡ 64 = grind arith in
     let hz : c.loop-z._z ≡ (119 - c.args.self.filled) % 64 = grind arith in
     let p = padded _ _ _ _ _ c.loop-z._z bs c.to_be_bytes.result hb c.args.self.room w hz refl c.to_be_bytes.ensures in
-    c.state-bytes.ensures
-    ∙ finished _ _ _ _ bs _ c.push-all.new.self.room p
-    (c.push-all.ensures.hashes _ (c.loop-z.invariant _ (c.push.ensures.hashes bs w)))
+    c.state_bytes.ensures
+    ∙ finished _ _ _ _ bs _ c.push_all.new.self.room p
+    (c.push_all.ensures.hashes _ (c.loop-z.invariant _ (c.push.ensures.hashes bs w)))

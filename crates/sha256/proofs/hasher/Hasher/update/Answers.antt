@@ -4,14 +4,14 @@ use Rattle.sha256.specs.Hashed.{Hashes}
 use Rattle.sha256.proofs.Hashing.{three_parts}
 use Rattle.sha256.proofs.hasher.Hasher.update.Goals as goal
 
-pub absorb-all-requires : goal.absorb-all-requires
-absorb-all-requires c =
+pub absorb_all-requires : goal.absorb_all-requires
+absorb_all-requires c =
     let more = c.args.more.now in
     let gap = (64 - c.args.self.now.filled) % 64 in
     let end = length more - (length more - gap) % 64 in
     let front : length (take (gap - 0) more) ≡ gap - 0 = length-take-le (gap - 0) more (omega arith) in
     let middle : length (take (end - gap) (drop gap more)) ≡ end - gap = length-take-le (end - gap) (drop gap more) (omega (arith, length-drop gap more)) in
-    (omega (arith, c.push-all-2.ensures.filled, c.args.self.now.room), omega arith)
+    (omega (arith, c.push_all-2.ensures.filled, c.args.self.now.room), omega arith)
 
 pub returns : goal.returns
 returns c bs w =

@@ -20,8 +20,8 @@ returns c =
     let free : t.count < length t.rows.now = ltb-true _ _ room.0 in
     let fits : t.filled + (length name + length body) ≤ length t.block.now = leb-true _ _ room.1 in
     let row : Row = record { name = length name; body = length body } in
-    let block = c.put-entry-self.new.block in
-    let w = c.put-entry-self.ensures in
+    let block = c.put_entry-self.new.block in
+    let w = c.put_entry-self.ensures in
     let y = bytes_from body (λ i. omega (arith, c.type-inv.body i)) in
     let rows : take (t.count + 1) (set t.rows.now t.count row) ≡ rows_of t ++ row ∷ [] = take_more_set t.rows.now t.count row free in
     let es : entries_in (take (t.count + 1) (set t.rows.now t.count row)) block ≡ entries_of t ++ (name, body) ∷ [] =
@@ -31,7 +31,7 @@ returns c =
       sound = record {
         counted = omega (arith, length-set t.rows.now t.count row);
         filled_is = w.end ∙ (omega (arith, s.filled_is, size-append (rows_of t) (row ∷ []), ap size rows));
-        within = omega (arith, w.end, c.put-entry-self.auto.block);
+        within = omega (arith, w.end, c.put_entry-self.auto.block);
         told = still;
         lawful = lawful (entries_in (take (t.count + 1) (set t.rows.now t.count row)) block) still;
       };

@@ -6,15 +6,15 @@ pub overflow-add-end : goal.overflow-add-end
 overflow-add-end c =
     let t = c.args.self.now in
     let s = c.requires.0 in
-    let w = name_within t.rows.now t.block.now t.count t.filled c.args.index c.start-of-start.result s.counted s.filled_is s.within c.requires.1 c.start-of-start.ensures in
+    let w = name_within t.rows.now t.block.now t.count t.filled c.args.index c.start_of-start.result s.counted s.filled_is s.within c.requires.1 c.start_of-start.ensures in
     search rules
 
 pub returns : goal.returns
 returns c =
     let t = c.args.self.now in
     let s = c.requires.0 in
-    let w = name_within t.rows.now t.block.now t.count t.filled c.args.index c.start-of-start.result s.counted s.filled_is s.within c.requires.1 c.start-of-start.ensures in
+    let w = name_within t.rows.now t.block.now t.count t.filled c.args.index c.start_of-start.result s.counted s.filled_is s.within c.requires.1 c.start_of-start.ensures in
     record {
-      name = name_part t.rows.now t.block.now t.count t.filled c.args.index c.start-of-start.result s.counted s.filled_is s.within c.requires.1 c.start-of-start.ensures;
+      name = name_part t.rows.now t.block.now t.count t.filled c.args.index c.start_of-start.result s.counted s.filled_is s.within c.requires.1 c.start_of-start.ensures;
       within = (omega arith, w);
     }

@@ -6,8 +6,8 @@ use Rattle.table_store.specs.Blocks.{part}
 use Rattle.table_store.specs.Held.{entries_of, meaning_of}
 use Rattle.table_store.proofs.table.Table.read_body.Goals as goal
 
-pub copy-out-requires : goal.copy-out-requires
-copy-out-requires c =
+pub copy_out-requires : goal.copy_out-requires
+copy_out-requires c =
     let t = c.args.self.now in
     let h = c.in-Some.ensures in
     let there : is_some (meaning_of t c.args.name.now) ≡ true = ap is_some h.body in
@@ -23,9 +23,9 @@ returns c =
     let h = c.in-Some.ensures in
     let there : is_some m ≡ true = ap is_some h.body in
     let small = (body_is (entries_of t) c.requires.0.told c.args.name.now there).0 in
-    let long : c.copy-out.result ≡ length (body_of m) = c.copy-out.ensures.long ∙ sym (ap (λ z. length (body_of z)) h.body) in
+    let long : c.copy_out.result ≡ length (body_of m) = c.copy_out.ensures.long ∙ sym (ap (λ z. length (body_of z)) h.body) in
     record {
       there = sym there;
       long = (long, omega (arith, c.requires.1));
-      after_is = c.copy-out.ensures.after ∙ sym (ap (λ z. over (body_of z) out) h.body) ∙ sym (ap (λ z. cond z (over (body_of m) out) out) there);
+      after_is = c.copy_out.ensures.after ∙ sym (ap (λ z. over (body_of z) out) h.body) ∙ sym (ap (λ z. cond z (over (body_of m) out) out) there);
     }
