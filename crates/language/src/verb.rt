@@ -74,9 +74,9 @@ pub enum Kind {
 pub fn kind_of(word: &[u8]) -> Option<Kind>
     ensures { MatchOption result ((k : Kind) → word.now ≢ kind_name k) (λ k. word.now ≡ kind_name k) }
 {
-    if word == b"line" {
+    if word == b"line".as_slice() {
         Some(Kind::Line)
-    } else if word == b"table" {
+    } else if word == b"table".as_slice() {
         Some(Kind::Table)
     } else {
         None

@@ -71,7 +71,7 @@ fn yields(rest: &[u8], message: &[u8], parts: &[u8]) -> bool
         number: leading_number(tail),
     };
     match candidate(leaf, message, parts) {
-        Some(found) => &found == &tail[4..36],
+        Some(found) => found.as_slice() == &tail[4..36],
         None => false,
     }
 }

@@ -23,6 +23,6 @@ pub(crate) fn shortest_first(from: &[u8; CHAINS], to: &[u8; CHAINS]) -> [Run; CH
             first: from[i],
         };
     }
-    runs.sort();
+    runs.sort_unstable();
     runs
 }

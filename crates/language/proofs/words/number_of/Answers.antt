@@ -13,13 +13,13 @@ loop-b-preserved c =
     let on = at_drop_more (number_from n) w i 0 c.loop-b-test.true ∙ number_on n (get_or w i 0) (drop (i + 1) w) e.0.0 in
     (ap (λ z. number_from z (drop (i + 1) w)) e.1 ∙ sym on ∙ c.loop-b.invariant.0, omega (arith, e.0.1, e.1))
 
-pub returns-in-default : goal.returns-in-default
-returns-in-default c =
+pub returns-in_default : goal.returns-in_default
+returns-in_default c =
     let w = c.args.word.now in
     let i = c.loop-b.b-index in
     let n = c.loop-b.n in
     sym
-    (sym c.loop-b.invariant.0 ∙ at_drop_more (number_from n) w i 0 c.loop-b-test.true ∙ number_stops n (get_or w i 0) (drop (i + 1) w) c.in-default.ensures)
+    (sym c.loop-b.invariant.0 ∙ at_drop_more (number_from n) w i 0 c.loop-b-test.true ∙ number_stops n (get_or w i 0) (drop (i + 1) w) c.in_default.ensures)
 
 pub returns : goal.returns
 returns c =

@@ -5,8 +5,8 @@ use Rattle.octets.proofs.Hexed.{length-hex, unhex_fills}
 use Rattle.line_store.proofs.Writing.{body_long, copied}
 use Rattle.line_store.proofs.edit.copy_body.Goals as goal
 
-pub slice-bounds-read-end : goal.slice-bounds-read-end
-slice-bounds-read-end c =
+pub slice_bounds-read-end : goal.slice_bounds-read-end
+slice_bounds-read-end c =
     let q = c.requires.1 in
     let l : c.args.marks.feed - (c.args.marks.space + 1) ≡ 2 * length q.0 = body_long c.args.text.now q.0 c.args.marks.space c.args.marks.feed c.requires.0.0 c.requires.0.1 q.1 in
     search rules

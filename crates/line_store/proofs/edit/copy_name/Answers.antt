@@ -15,8 +15,8 @@ returns-then-at-text c es e s =
     let n = no_more c.args.text.now c.line_start-at.result c.args.index es c.line_start-at.ensures e (omega arith) in
     record { there = sym (le-ltb _ _ n); long = n; after_is = sym (ap (λ z. over z.0 c.args.out.now) (get_or_past es c.args.index _ n)) }
 
-pub slice-bounds-read-end : goal.slice-bounds-read-end
-slice-bounds-read-end c =
+pub slice_bounds-read-end : goal.slice_bounds-read-end
+slice_bounds-read-end c =
     let text = c.args.text.now in
     let told = c.requires.0 in
     let at = c.line_start-at.result in

@@ -7,13 +7,13 @@ use Rattle.line_store.proofs.scan.find.Goals as goal
 pub loop-at-init : goal.loop-at-init
 loop-at-init c = left_none c.args.text.now c.args.key.now c.requires.0 c.requires.1
 
-pub overflow-add-space : goal.overflow-add-space
-overflow-add-space c =
+pub overflow_add-space : goal.overflow_add-space
+overflow_add-space c =
     let w : c.seek-space.result + 1 ≤ length c.args.text.now = space_within c.args.text.now c.args.key.now c.loop-at.at c.seek-space.result c.loop-at.invariant c.loop-at-test.true c.seek-space.ensures.is in
     search rules
 
-pub overflow-add-at : goal.overflow-add-at
-overflow-add-at c =
+pub overflow_add-at : goal.overflow_add-at
+overflow_add-at c =
     let w : c.seek-feed.result + 1 ≤ length c.args.text.now = feed_within c.args.text.now c.args.key.now c.loop-at.at c.seek-space.result c.seek-feed.result c.loop-at.invariant c.loop-at-test.true c.seek-space.ensures.is c.seek-feed.ensures.is in
     search rules
 

@@ -9,9 +9,9 @@ use Rattle.line_store.proofs.scan.is_text.Goals as goal
 pub find-requires : goal.find-requires
 find-requires c = (c.loop-at.invariant.1.0, c.loop-at.invariant.1.1.0 ∙ ap (λ z. take z c.args.text.now) (omega arith))
 
-pub returns-in-default : goal.returns-in-default
-returns-in-default c =
-    ((λ e. absurd (both_ways false refl e)), λ t. absurd (told_not c.args.text.now c.loop-at.at c.loop-at.invariant.1 c.loop-at-test.true c.in-default.ensures t))
+pub returns-in_default : goal.returns-in_default
+returns-in_default c =
+    ((λ e. absurd (both_ways false refl e)), λ t. absurd (told_not c.args.text.now c.loop-at.at c.loop-at.invariant.1 c.loop-at-test.true c.in_default.ensures t))
 
 pub returns-then-is_some : goal.returns-then-is_some
 returns-then-is_some c =

@@ -10,8 +10,8 @@ loop-i-init c = starts_none c.args.text.now
 pub returns-then-at-text : goal.returns-then-at-text
 returns-then-at-text c = starts_past c.args.text.now c.loop-i.at c.loop-i.-i c.args.index c.loop-i.invariant (omega arith) (omega arith)
 
-pub overflow-add-at : goal.overflow-add-at
-overflow-add-at c =
+pub overflow_add-at : goal.overflow_add-at
+overflow_add-at c =
     let l = line_of c.args.text.now c.loop-i.at c.loop-i.-i c.seek-space.result c.seek-feed.result c.loop-i.invariant (omega arith) c.seek-space.ensures.is c.seek-feed.ensures.is c.requires.0 c.requires.1 in
     let w : c.seek-feed.result < length c.args.text.now = l.within in
     search rules

@@ -5,11 +5,11 @@ use Rattle.sha256.specs.Sha256.{sha256}
 use Rattle.lmots.proofs.Verdicts.{refused, decided, behind_four}
 use Rattle.lmots.proofs.checking.holds.Goals as goal
 
-pub returns-in-default : goal.returns-in-default
-returns-in-default c = refused sha256 _ _ _ (λ t. omega (arith, ltb-true, ltb-false))
+pub returns-in_default : goal.returns-in_default
+returns-in_default c = refused sha256 _ _ _ (λ t. omega (arith, ltb-true, ltb-false))
 
-pub returns-in-default-signature : goal.returns-in-default-signature
-returns-in-default-signature c = refused sha256 _ _ _ (λ t. omega (arith, ltb-true, ltb-false))
+pub returns-in_default-signature : goal.returns-in_default-signature
+returns-in_default-signature c = refused sha256 _ _ _ (λ t. omega (arith, ltb-true, ltb-false))
 
 pub returns-then-key_type-ne-TYPE : goal.returns-then-key_type-ne-TYPE
 returns-then-key_type-ne-TYPE c =

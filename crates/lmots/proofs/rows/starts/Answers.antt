@@ -12,8 +12,8 @@ use Rattle.lmots.proofs.rows.starts.Goals as goal
 pub loop-i-init : goal.loop-i-init
 loop-i-init c = (refl, row_begin (x sha256 (bytes c.args.leaf.id) c.args.leaf.number (bytes c.args.seed)) _)
 
-pub slice-bounds-put-end : goal.slice-bounds-put-end
-slice-bounds-put-end c = let l = c.loop-i.invariant.0 in grind arith
+pub slice_bounds-put-end : goal.slice_bounds-put-end
+slice_bounds-put-end c = let l = c.loop-i.invariant.0 in grind arith
 
 pub loop-i-preserved : goal.loop-i-preserved
 loop-i-preserved c =

@@ -9,16 +9,16 @@ use Rattle.lms.specs.Lms.{known, height}
 use Rattle.lms.proofs.Verdicts.{Fit, refused, accepted, fit_suits, suits_fit, suits_parts, kinds_known}
 use Rattle.lms.proofs.checking.verdict.Goals as goal
 
-pub returns-in-default : goal.returns-in-default
-returns-in-default c = refused sha256 _ _ _ (λ f. omega (arith, ltb-true, ltb-false, f.long))
+pub returns-in_default : goal.returns-in_default
+returns-in_default c = refused sha256 _ _ _ (λ f. omega (arith, ltb-true, ltb-false, f.long))
 
-pub returns-in-default-signature : goal.returns-in-default-signature
-returns-in-default-signature c = refused sha256 _ _ _ (λ f. omega (arith, ltb-true, ltb-false, f.whole))
+pub returns-in_default-signature : goal.returns-in_default-signature
+returns-in_default-signature c = refused sha256 _ _ _ (λ f. omega (arith, ltb-true, ltb-false, f.whole))
 
-pub returns-in-default-from_number : goal.returns-in-default-from_number
-returns-in-default-from_number c =
+pub returns-in_default-from_number : goal.returns-in_default-from_number
+returns-in_default-from_number c =
     let e : c.from_be_bytes.result ≡ number c.args.key.now = c.from_be_bytes.ensures in
-    refused sha256 _ _ _ (λ f. both_ways (known c.from_be_bytes.result) c.in-default-from_number.ensures (ap known e ∙ f.kind))
+    refused sha256 _ _ _ (λ f. both_ways (known c.from_be_bytes.result) c.in_default-from_number.ensures (ap known e ∙ f.kind))
 
 pub returns-then-leading_number-ne-ONE_TIME_TYPE : goal.returns-then-leading_number-ne-ONE_TIME_TYPE
 returns-then-leading_number-ne-ONE_TIME_TYPE c =

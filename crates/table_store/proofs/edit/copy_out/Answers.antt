@@ -3,8 +3,8 @@ use Rattle.std.proofs.lemmas.List.{length-drop, length-take-le}
 use Rattle.table_store.specs.Blocks.{part}
 use Rattle.table_store.proofs.edit.copy_out.Goals as goal
 
-pub slice-bounds-copy_from_slice-end : goal.slice-bounds-copy_from_slice-end
-slice-bounds-copy_from_slice-end c =
+pub slice_bounds-copy_from_slice-end : goal.slice_bounds-copy_from_slice-end
+slice_bounds-copy_from_slice-end c =
     let w = c.args.span in
     let block = c.args.block.now in
     let long : length (part block w) ≡ w.end - w.start = length-take-le (w.end - w.start) (drop w.start block) (omega (arith, length-drop w.start block, c.requires.0, c.requires.1)) in

@@ -12,14 +12,14 @@ within c = row_within c.args.rows.now c.args.block.now c.args.name.now c.loop-ro
 pub loop-row-init : goal.loop-row-init
 loop-row-init c = left_none c.args.rows.now c.args.block.now c.args.name.now c.requires
 
-pub overflow-add-start : goal.overflow-add-start
-overflow-add-start c = let w = within c in search rules
+pub overflow_add-start : goal.overflow_add-start
+overflow_add-start c = let w = within c in search rules
 
-pub overflow-add-end : goal.overflow-add-end
-overflow-add-end c = let w = row_within c.args.rows.now c.args.block.now c.args.name.now c.loop-row.at c.loop-row.row-index _ _ c.loop-row.invariant c.loop-row-test.true refl refl in search rules
+pub overflow_add-end : goal.overflow_add-end
+overflow_add-end c = let w = row_within c.args.rows.now c.args.block.now c.args.name.now c.loop-row.at c.loop-row.row-index _ _ c.loop-row.invariant c.loop-row-test.true refl refl in search rules
 
-pub slice-bounds-eq-end : goal.slice-bounds-eq-end
-slice-bounds-eq-end c = let w = row_within c.args.rows.now c.args.block.now c.args.name.now c.loop-row.at c.loop-row.row-index _ _ c.loop-row.invariant c.loop-row-test.true refl refl in search rules
+pub slice_bounds-eq-end : goal.slice_bounds-eq-end
+slice_bounds-eq-end c = let w = row_within c.args.rows.now c.args.block.now c.args.name.now c.loop-row.at c.loop-row.row-index _ _ c.loop-row.invariant c.loop-row-test.true refl refl in search rules
 
 pub returns-then-eq : goal.returns-then-eq
 returns-then-eq c =

@@ -2,16 +2,16 @@ use Rattle.std.proofs.Common.{◌+◌, sym, ap, ◌∙◌, arith, rules}
 use Rattle.table_store.proofs.Laying.{size-take, size_more}
 use Rattle.table_store.proofs.edit.start_of.Goals as goal
 
-pub overflow-add-at : goal.overflow-add-at
-overflow-add-at c =
+pub overflow_add-at : goal.overflow_add-at
+overflow_add-at c =
     let rows = c.args.rows.now in
     let m = size_more rows c.loop-i.i (omega (arith, c.requires.0)) in
     let w = size-take (c.loop-i.i + 1) rows in
     let l = c.requires.1 in
     search rules
 
-pub overflow-add-at-in-loop-i : goal.overflow-add-at-in-loop-i
-overflow-add-at-in-loop-i c =
+pub overflow_add-at-in-loop-i : goal.overflow_add-at-in-loop-i
+overflow_add-at-in-loop-i c =
     let rows = c.args.rows.now in
     let m = size_more rows c.loop-i.i (omega (arith, c.requires.0)) in
     let w = size-take (c.loop-i.i + 1) rows in

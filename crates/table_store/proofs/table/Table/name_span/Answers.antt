@@ -2,8 +2,8 @@ use Rattle.std.proofs.Common.{arith, rules}
 use Rattle.table_store.proofs.Laying.{name_within, name_part}
 use Rattle.table_store.proofs.table.Table.name_span.Goals as goal
 
-pub overflow-add-end : goal.overflow-add-end
-overflow-add-end c =
+pub overflow_add-end : goal.overflow_add-end
+overflow_add-end c =
     let t = c.args.self.now in
     let s = c.requires.0 in
     let w = name_within t.rows.now t.block.now t.count t.filled c.args.index c.start_of-start.result s.counted s.filled_is s.within c.requires.1 c.start_of-start.ensures in
