@@ -76,7 +76,7 @@ impl<'a> Table<'a> {
     // Copies the body of a name to the start of `out`, and gives its length.
     pub(crate) fn read_body(&self, name: &[u8], out: &mut [u8]) -> Option<usize>
         requires sound { Sound self.now }
-        requires in_bounds { 32768 ≤ length out.old }
+        requires space { 32768 ≤ length out.old }
         ensures { Copied (meaning_of self.now name.now) result out.old out.new }
     {
         let Some(body) = self.find(name) else {
@@ -88,7 +88,7 @@ impl<'a> Table<'a> {
     // Where the name of an entry lies.
     pub(crate) fn name_span(&self, index: usize) -> Span
         requires sound { Sound self.now }
-        requires index_lt_count { index < self.now.count }
+        requires in_use { index < self.now.count }
         ensures name { part self.now.block.now result ≡ name_at (entries_of self.now) index }
         ensures within { (result.start ≤ result.end) × (result.end ≤ length self.now.block.now) }
     {
@@ -100,10 +100,10 @@ impl<'a> Table<'a> {
 
     // Adds an entry of a new name, for which there is room.
     pub(crate) fn add(&mut self, name: &[u8], body: &[u8])
-        requires sound_2 { Sound self.old }
-        requires name_value { (is_name name.now ≡ true) × (length body.now ≤ 32768) }
-        requires name_value_2 { meaning_of self.old name.now ≡ None }
-        requires body_value { room_in self.old (length name.now) (length body.now) ≡ true }
+        requires sound_before { Sound self.old }
+        requires entry_formed { (is_name name.now ≡ true) × (length body.now ≤ 32768) }
+        requires name_free { meaning_of self.old name.now ≡ None }
+        requires room_left { room_in self.old (length name.now) (length body.now) ≡ true }
         ensures sound { Sound self.new }
         ensures meaning { meaning_of self.new ≡ with (meaning_of self.old) name.now body.now }
         ensures added { Added self.old self.new (name.now, body.now) }

@@ -5,15 +5,11 @@ use Rattle.table_store.specs.Blocks.{size}
 use Rattle.table_store.proofs.Laying.{blank, left_none, row_within, row_found, row_passed, left_all}
 use Rattle.table_store.proofs.edit.find.Goals as goal
 
--- the row lies within the block
-within : (c : goal.After-row·1) → c.loop-row.at + (get_or c.args.rows.now c.loop-row.row-index blank).name + (get_or c.args.rows.now c.loop-row.row-index blank).body + size (drop (c.loop-row.row-index + 1) c.args.rows.now) ≤ length c.args.block.now
-within c = row_within c.args.rows.now c.args.block.now c.args.name.now c.loop-row.at c.loop-row.row-index _ _ c.loop-row.invariant c.loop-row-test.true refl refl
-
 pub loop-row-init : goal.loop-row-init
 loop-row-init c = left_none c.args.rows.now c.args.block.now c.args.name.now c.requires
 
 pub overflow_add-start : goal.overflow_add-start
-overflow_add-start c = let w = within c in search rules
+overflow_add-start c = let w = row_within c.args.rows.now c.args.block.now c.args.name.now c.loop-row.at c.loop-row.row-index _ _ c.loop-row.invariant c.loop-row-test.true refl refl in search rules
 
 pub overflow_add-end : goal.overflow_add-end
 overflow_add-end c = let w = row_within c.args.rows.now c.args.block.now c.args.name.now c.loop-row.at c.loop-row.row-index _ _ c.loop-row.invariant c.loop-row-test.true refl refl in search rules

@@ -15,18 +15,18 @@ returns c =
     let t = c.args.self.now in
     let name = c.args.name.now in
     let body = c.args.body.now in
-    let s = c.requires.0 in
-    let room = and_parts (ltb t.count (length t.rows.now)) (leb (t.filled + (length name + length body)) (length t.block.now)) c.requires.3 in
+    let s = c.requires.sound_before in
+    let room = and_parts (ltb t.count (length t.rows.now)) (leb (t.filled + (length name + length body)) (length t.block.now)) c.requires.room_left in
     let free : t.count < length t.rows.now = ltb-true _ _ room.0 in
     let fits : t.filled + (length name + length body) ≤ length t.block.now = leb-true _ _ room.1 in
     let row : Row = record { name = length name; body = length body } in
     let block = c.put_entry-self.new.block in
     let w = c.put_entry-self.ensures in
-    let y = bytes_from body (λ i. omega (arith, c.type-inv.body i)) in
+    let y = bytes_from body (λ i. omega (arith, c.type_inv.body i)) in
     let rows : take (t.count + 1) (set t.rows.now t.count row) ≡ rows_of t ++ row ∷ [] = take_more_set t.rows.now t.count row free in
     let es : entries_in (take (t.count + 1) (set t.rows.now t.count row)) block ≡ entries_of t ++ (name, body) ∷ [] =
     ap (λ z. entries_in z block) rows ∙ ap (entries_in (rows_of t ++ row ∷ [])) w.after ∙ entries_push (rows_of t) row t.block.now name body t.filled s.filled_is s.within refl refl in
-    let still = ap sound es ∙ sound_push (entries_of t) (name, body) s.told (and_from _ _ c.requires.1.0 (and_from _ _ (le-leb _ _ c.requires.1.1) y)) (ap is_some c.requires.2) in
+    let still = ap sound es ∙ sound_push (entries_of t) (name, body) s.told (and_from _ _ c.requires.entry_formed.0 (and_from _ _ (le-leb _ _ c.requires.entry_formed.1) y)) (ap is_some c.requires.name_free) in
     record {
       sound = record {
         counted = omega (arith, length-set t.rows.now t.count row);
@@ -35,6 +35,6 @@ returns c =
         told = still;
         lawful = lawful (entries_in (take (t.count + 1) (set t.rows.now t.count row)) block) still;
       };
-      meaning = ap look_up es ∙ look_push (entries_of t) name body (ap is_some c.requires.2);
+      meaning = ap look_up es ∙ look_push (entries_of t) name body (ap is_some c.requires.name_free);
       added = record { count_is = refl; filled_is = w.end; rows_are = refl; block_is = w.after };
     }
