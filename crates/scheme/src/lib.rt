@@ -1,4 +1,6 @@
 // Signature schemes: what every one of them promises.
+#![tactic(auto)]
+
 ghost use Rattle.std.specs.Prelude.{◌≡◌, ℕ, ◌^◌, ◌<◌, ◌≤◌, Bool, true, List, length, take, is_ok, IfOk, if◌then◌else◌};
 ghost use Rattle.octets.specs.Buffers.{over};
 ghost use Rattle.scheme.specs.Answers.{sign_code, sign_answer};

@@ -1,6 +1,5 @@
 -- A hasher's bytes: a block's words, and one more byte.
-use Rattle.std.proofs.Common.{◌≡◌, ℕ, zero, suc, ◌+◌, ◌-◌, ◌*◌, ◌/◌, ◌%◌, ◌^◌, ◌<◌, ◌≤◌, List, [], ◌∷◌, ◌++◌, map, length, get_or, take, drop, set, replicate, sym, refl, ap, ◌∙◌, subst, append_assoc, append-nil, arith, length-append, length-drop, length-set}
-use Rattle.std.specs.List.{range_with_len}
+use Rattle.std.proofs.Common.{◌≡◌, ℕ, zero, suc, ◌+◌, ◌-◌, ◌*◌, ◌/◌, ◌%◌, ◌^◌, ◌<◌, ◌≤◌, List, [], ◌∷◌, ◌++◌, length, get_or, take, drop, set, replicate, sym, refl, ap, ◌∙◌, append_assoc, append-nil, arith, length-append, length-drop, length-set}
 use Rattle.std.proofs.lemmas.List.{take_all, take-append-le, drop-append-le, take_more_set, nil_from_length, length_push, length-take-le, length-replicate, take-append-drop}
 use lib.Seq.{take-append-add}
 use Rattle.sha256.specs.Sha256.{words, bytes, absorb, compress, IV, pad, zeros, u64str, sha256}

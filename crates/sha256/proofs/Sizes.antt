@@ -1,6 +1,6 @@
 -- A hash is 32 bytes.
-use Rattle.std.proofs.Common.{◌≡◌, ℕ, zero, suc, ◌+◌, ◌-◌, ◌*◌, ◌/◌, ◌%◌, ◌^◌, ◌<◌, ◌≤◌, List, [], ◌∷◌, ◌++◌, length, get_or, take, drop, sym, refl, ap, ◌∙◌, arith}
-use Rattle.sha256.specs.Sha256.{K, IV, pad, schedule, round, rounds, sums, compress, words, bytes, absorb, sha256, ◌⊞◌}
+use Rattle.std.proofs.Common.{◌≡◌, ℕ, zero, suc, ◌*◌, ◌/◌, ◌<◌, List, [], ◌∷◌, length, get_or, take, drop, refl, arith}
+use Rattle.sha256.specs.Sha256.{K, IV, pad, schedule, round, rounds, sums, compress, words, bytes, absorb, sha256}
 
 length-rounds : (ks ws s : List ℕ) → length s ≡ 8 → length (rounds s ks ws) ≡ 8
 unfolding round

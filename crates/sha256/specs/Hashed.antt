@@ -1,5 +1,5 @@
 -- What a hasher's fields say of the bytes that it was given.
-use Rattle.std.specs.Prelude.{◌≡◌, ℕ, ◌*◌, ◌%◌, ◌^◌, ◌<◌, List, ◌++◌, length, take}
+use Rattle.std.specs.Prelude.{◌≡◌, ℕ, ◌*◌, ◌%◌, ◌^◌, List, ◌++◌, length, take}
 use Rattle.sha256.specs.Sha256.{absorb, IV}
 use Rattle.sha256.specs.declared.hasher.Hasher.{Hasher}
 

@@ -1,4 +1,6 @@
 // SHA-256's work on four blocks at once, each in a lane of its own.
+#![tactic(auto)]
+
 ghost use Rattle.std.specs.Prelude.{◌≡◌, ℕ, ◌<◌, drop, slice_index, slice_index_or};
 ghost use Rattle.sha256.specs.Sha256.{◌⊞◌, T1, T2, scheduled, round as round_of, rounds, extend, compress as compressed};
 ghost use Rattle.sha256_lanes.specs.Lane.{lane};

@@ -6,7 +6,7 @@ use Rattle.std.proofs.lemmas.Slice.Eq.{bytes_eq-Decides}
 use Rattle.std.proofs.lemmas.Bool.Decides.{same_from_decides}
 use Rattle.std.specs.Str.{bytes_eq}
 use Rattle.octets.specs.Buffers.{are_bytes}
-use Rattle.store.specs.Meanings.{Meaning, Lawful, allowed, is_visible, all_visible, is_name, is_body, with, body_of}
+use Rattle.store.specs.Meanings.{Lawful, allowed, is_visible, all_visible, is_name, is_body, with, body_of}
 use Rattle.store.specs.Entries.{Entry, is_entry, look_up, sound, name_at}
 
 visible_bytes : (xs : List ℕ) → all_visible xs ≡ true → are_bytes xs ≡ true

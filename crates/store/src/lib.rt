@@ -1,4 +1,6 @@
 // The store of entries: what every implementation promises.
+#![tactic(auto)]
+
 ghost use Rattle.std.specs.Prelude.{◌≡◌, ℕ, ◌≤◌, Bool, false, length, is_some, is_ok, IfOk, if◌then◌else◌};
 ghost use Rattle.octets.specs.Buffers.{over};
 ghost use Rattle.store.specs.Meanings.{Meaning, with, body_of, Lawful};

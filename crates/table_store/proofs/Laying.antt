@@ -1,12 +1,11 @@
 -- Rows over a block, one by one.
-use Rattle.std.proofs.Common.{◌≡◌, ℕ, zero, suc, ◌+◌, ◌-◌, ◌<◌, ◌≤◌, true, false, cond, List, [], ◌∷◌, ◌++◌, length, get_or, take, drop, Some, None, Option, sym, refl, ap, ◌∙◌, ⊎_elim, arith}
+use Rattle.std.proofs.Common.{◌≡◌, ℕ, zero, suc, ◌+◌, ◌-◌, ◌<◌, ◌≤◌, cond, List, [], ◌∷◌, ◌++◌, length, get_or, take, drop, Some, None, sym, refl, ap, ◌∙◌, ⊎_elim, arith}
 use Rattle.std.proofs.lemmas.Bool.{cases_Bool}
-use Rattle.std.proofs.lemmas.List.{append_assoc, length-append, length-drop, length-take-le, get_or-take, take-append-le, drop-append-le, take-append-drop, take_more, take_at, drop_at, drop-drop, take_all, at_drop_more, at_drop_all}
+use Rattle.std.proofs.lemmas.List.{append_assoc, length-drop, length-take-le, get_or-take, take-append-le, drop-append-le, take-append-drop, take_more, take_at, drop_at, drop-drop, at_drop_more, at_drop_all}
 use Rattle.std.proofs.lemmas.Slice.Eq.{bytes_eq-Decides}
 use Rattle.std.specs.Str.{bytes_eq}
 use Rattle.octets.specs.Buffers.{over}
-use Rattle.octets.specs.declared.span.Span.{Span}
-use Rattle.store.specs.Entries.{Entry, look_up, name_at}
+use Rattle.store.specs.Entries.{look_up, name_at}
 use Rattle.table_store.specs.Blocks.{entries_in, size, part, Holds}
 use Rattle.table_store.specs.declared.table.Row.{Row}
 

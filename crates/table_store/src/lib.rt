@@ -1,4 +1,6 @@
 // A store that is a table of rows over a block of bytes, both lent.
+#![tactic(auto)]
+
 ghost use Rattle.std.specs.Prelude.{◌≡◌, ℕ, ◌≤◌, true, false, length, is_some, is_ok, if◌then◌else◌};
 ghost use Rattle.store.specs.Meanings.{Lawful, nothing, with};
 ghost use Rattle.store.specs.Entries.{sound as sound_of};

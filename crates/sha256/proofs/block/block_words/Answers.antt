@@ -1,4 +1,3 @@
-use Rattle.std.proofs.Common.{◌≡◌, ℕ, ◌+◌, ◌<◌, List, [], ◌∷◌, ◌++◌, length, get_or, take, set, sym, refl, ap, ◌∙◌, arith}
 use Rattle.sha256.proofs.Hashing.{block_words_are}
 use Rattle.sha256.proofs.block.block_words.Goals as goal
 

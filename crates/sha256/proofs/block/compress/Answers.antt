@@ -1,4 +1,4 @@
-use Rattle.std.proofs.Common.{◌≡◌, ℕ, length, get_or, sym, refl, ap, ◌∙◌, arith}
+use Rattle.std.proofs.Common.{◌≡◌, length, get_or, sym, ap, ◌∙◌, arith}
 use Rattle.sha256.specs.Sha256.{sums}
 use Rattle.sha256.proofs.Rounds.{compress_is, listed, at}
 use Rattle.sha256.proofs.block.compress.Goals as goal

@@ -1,4 +1,4 @@
-use Rattle.std.proofs.Common.{◌≡◌, ℕ, length, get_or, sym, refl, ap, ◌∙◌, arith}
+use Rattle.std.proofs.Common.{◌≡◌, length, get_or, sym, ap, ◌∙◌, arith}
 use Rattle.sha256.proofs.Rounds.{sixteen_words, listed, after}
 use Rattle.sha256.proofs.block.next_sixteen.Goals as goal
 

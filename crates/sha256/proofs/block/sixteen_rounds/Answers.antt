@@ -1,4 +1,4 @@
-use Rattle.std.proofs.Common.{◌≡◌, ℕ, length, get_or, sym, refl, ap, ◌∙◌, arith}
+use Rattle.std.proofs.Common.{◌≡◌, length, get_or, sym, ap, ◌∙◌, arith}
 use Rattle.sha256.specs.Sha256.{rounds}
 use Rattle.sha256.proofs.Rounds.{sixteen_rounds, listed, at}
 use Rattle.sha256.proofs.block.sixteen_rounds.Goals as goal

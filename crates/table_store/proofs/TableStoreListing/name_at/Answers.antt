@@ -1,8 +1,7 @@
-use Rattle.std.proofs.Common.{◌≡◌, ◌<◌, ◌≤◌, length, sym, refl, ap, ◌∙◌, arith}
+use Rattle.std.proofs.Common.{◌<◌, ◌≤◌, length, sym, ap, ◌∙◌, arith}
 use Rattle.std.proofs.lemmas.Bool.{lt-ltb, le-ltb}
 use Rattle.std.proofs.lemmas.List.{length-take-le, get_or_past}
 use Rattle.octets.specs.Buffers.{over}
-use Rattle.store.specs.Entries.{name_at}
 use Rattle.store.proofs.Looking.{name_at_short}
 use Rattle.table_store.specs.Held.{rows_of, entries_of}
 use Rattle.table_store.proofs.Laying.{length-entries}

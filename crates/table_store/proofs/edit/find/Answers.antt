@@ -1,8 +1,7 @@
-use Rattle.std.proofs.Common.{◌+◌, ◌≤◌, length, get_or, drop, refl, rules}
+use Rattle.std.proofs.Common.{refl, rules}
 use Rattle.std.proofs.lemmas.Slice.Eq.{slice_eq-Decides}
 use Rattle.std.proofs.lemmas.Bool.Decides.{not_from_Decides, Decides-eqb}
-use Rattle.table_store.specs.Blocks.{size}
-use Rattle.table_store.proofs.Laying.{blank, left_none, row_within, row_found, row_passed, left_all}
+use Rattle.table_store.proofs.Laying.{left_none, row_within, row_found, row_passed, left_all}
 use Rattle.table_store.proofs.edit.find.Goals as goal
 
 pub loop-row-init : goal.loop-row-init

@@ -1,4 +1,4 @@
-use Rattle.std.proofs.Common.{◌+◌, sym, ap, ◌∙◌, arith, rules}
+use Rattle.std.proofs.Common.{◌+◌, arith, rules}
 use Rattle.table_store.proofs.Laying.{size-take, size_more}
 use Rattle.table_store.proofs.edit.start_of.Goals as goal
 
