@@ -1,6 +1,6 @@
 -- Lines, one after the other.
 use Rattle.std.proofs.Common.{◌≡◌, ℕ, ◌+◌, ◌-◌, ◌*◌, ◌<◌, ◌≤◌, List, [], ◌∷◌, length, get_or, take, drop, sym, refl, ap, ◌∙◌, arith}
-use Rattle.std.proofs.lemmas.List.{length-drop, drop_all, drop-drop, drop_more, length-take-le}
+use Rattle.std.proofs.lemmas.List.{length-drop, drop_all, drop_more}
 use Rattle.octets.specs.Hex.{hex}
 use Rattle.store.specs.Entries.{Entry, name_at}
 use Rattle.octets.specs.Search.{up_to}

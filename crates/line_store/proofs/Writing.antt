@@ -1,14 +1,14 @@
 -- A line written behind a text, and a body read out of one.
-use Rattle.std.proofs.Common.{◌≡◌, ℕ, ◌+◌, ◌-◌, ◌*◌, ◌/◌, ◌<◌, ◌≤◌, true, false, List, [], ◌∷◌, ◌++◌, length, take, drop, set, is_some, None, sym, refl, ap, ◌∙◌, arith}
+use Rattle.std.proofs.Common.{◌≡◌, ℕ, ◌+◌, ◌-◌, ◌*◌, ◌/◌, ◌<◌, ◌≤◌, true, List, [], ◌∷◌, ◌++◌, length, take, drop, set, is_some, None, sym, ap, ◌∙◌, arith}
 use borrow.Rule.Slice.PartMut.{put_mid}
 use Rattle.std.proofs.lemmas.List.{length-drop, length-append, length-take-le, append_assoc, take_at}
 use Rattle.std.proofs.lemmas.Bool.{and_from, le-leb}
 use Rattle.octets.specs.Buffers.{over, are_bytes}
 use Rattle.octets.specs.Hex.{hex, unhex}
 use Rattle.octets.proofs.Hexed.{length-hex, unhex-hex, hex_fills}
-use Rattle.octets.proofs.Overs.{over-take, over_put, over-set}
+use Rattle.octets.proofs.Overs.{over_put, over-set}
 use Rattle.store.specs.Meanings.{is_name, with}
-use Rattle.store.specs.Entries.{Entry, look_up, sound}
+use Rattle.store.specs.Entries.{look_up, sound}
 use Rattle.store.proofs.Looking.{sound_push, look_push}
 use Rattle.line_store.specs.Texts.{line_then, text_of, entries_of, is_text}
 use Rattle.line_store.proofs.Telling.{text_append, is_text_entries, told_entries, told_is_text}

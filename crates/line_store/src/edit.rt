@@ -18,8 +18,8 @@ use store::limits::NAME_MAX;
 
 // The marks of a name, which is written into `key` first.
 fn find_name(text: &[u8], name: &[u8], key: &mut [u8]) -> Option<Marks>
-    requires es_value { (es : List Entry) × (text_of es ≡ text.now) }
-    requires name_in_bounds { 2 * length name.now ≤ length key.old }
+    requires of_entries { (es : List Entry) × (text_of es ≡ text.now) }
+    requires key_room { 2 * length name.now ≤ length key.old }
     ensures { (es : List Entry) → text_of es ≡ text.now → MatchOption result (look_up es name.now ≡ None) (λ w. Holds text.now (look_up es name.now) w) }
 {
     let long = 2 * name.len();
@@ -29,8 +29,8 @@ fn find_name(text: &[u8], name: &[u8], key: &mut [u8]) -> Option<Marks>
 
 // Copies the body between the marks to the start of `out`, and gives its length.
 fn copy_body(text: &[u8], marks: Marks, out: &mut [u8]) -> usize
-    requires space_bound { (marks.space + 1 ≤ marks.feed) × (marks.feed < length text.now) }
-    requires by_index { (b : List ℕ) × (take (marks.feed - (marks.space + 1)) (drop (marks.space + 1) text.now) ≡ hex_of b) × (length b ≤ length out.old) }
+    requires marks_within { (marks.space + 1 ≤ marks.feed) × (marks.feed < length text.now) }
+    requires body_there { (b : List ℕ) × (take (marks.feed - (marks.space + 1)) (drop (marks.space + 1) text.now) ≡ hex_of b) × (length b ≤ length out.old) }
     ensures { (b : List ℕ) → take (marks.feed - (marks.space + 1)) (drop (marks.space + 1) text.now) ≡ hex_of b → are_bytes b ≡ true → (result ≡ length b) × (out.new ≡ over b out.old) }
 {
     let start = marks.space + 1;
@@ -105,7 +105,7 @@ impl<'a> Lines<'a> {
     // Copies the body of a name to the start of `out`, and gives its length.
     pub(crate) fn read_body(&self, name: &[u8], out: &mut [u8]) -> Option<usize>
         requires sound { Sound self.now }
-        requires in_bounds { 32768 ≤ length out.old }
+        requires space { 32768 ≤ length out.old }
         ensures { Copied (meaning_of self.now name.now) result out.old out.new }
     {
         let Some(marks) = self.find(name) else {
@@ -141,10 +141,10 @@ impl<'a> Lines<'a> {
 
     // Adds a line of a new name, for which there is room.
     pub(crate) fn add(&mut self, name: &[u8], body: &[u8])
-        requires sound_2 { Sound self.old }
-        requires name_value { (is_name name.now ≡ true) × (length body.now ≤ 32768) }
-        requires name_value_2 { meaning_of self.old name.now ≡ None }
-        requires body_value { room_in self.old (length name.now) (length body.now) ≡ true }
+        requires sound_before { Sound self.old }
+        requires entry_formed { (is_name name.now ≡ true) × (length body.now ≤ 32768) }
+        requires name_free { meaning_of self.old name.now ≡ None }
+        requires room_left { room_in self.old (length name.now) (length body.now) ≡ true }
         ensures sound { Sound self.new }
         ensures meaning { meaning_of self.new ≡ with (meaning_of self.old) name.now body.now }
         ensures appended { Appended self.old self.new (name.now, body.now) }

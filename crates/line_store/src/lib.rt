@@ -1,4 +1,6 @@
 // A store that is text in lent memory: a line for each entry.
+#![tactic(auto)]
+
 ghost use Rattle.std.specs.Prelude.{◌≡◌, ℕ, ◌≤◌, true, false, length, is_some, is_ok, if◌then◌else◌};
 ghost use Rattle.store.specs.Meanings.{Lawful, nothing, with};
 ghost use Rattle.store.specs.Answers.{file_code, file_answer};

@@ -1,5 +1,5 @@
-use Rattle.std.proofs.Common.{◌≡◌, true, ◌&&◌, sym, ap, ◌∙◌}
-use Rattle.octets.specs.Hex.{is_hex, unhex}
+use Rattle.std.proofs.Common.{◌&&◌, sym, ap, ◌∙◌}
+use Rattle.octets.specs.Hex.{unhex}
 use Rattle.store.specs.Meanings.{is_body}
 use Rattle.line_store.proofs.Reading.{body_short}
 use Rattle.line_store.proofs.scan.is_hex_body.Goals as goal

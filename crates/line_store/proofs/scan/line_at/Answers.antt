@@ -1,4 +1,4 @@
-use Rattle.std.proofs.Common.{◌≡◌, sym, refl, ap, ◌∙◌, arith}
+use Rattle.std.proofs.Common.{sym, refl, ◌∙◌, arith}
 use Rattle.line_store.proofs.Reading.{no_space, no_feed, no_name, no_body, a_line}
 use Rattle.line_store.proofs.scan.line_at.Goals as goal
 

@@ -1,4 +1,4 @@
-use Rattle.std.proofs.Common.{◌≡◌, ◌+◌, ◌*◌, ◌≤◌, [], ◌++◌, length, take, arith}
+use Rattle.std.proofs.Common.{◌≡◌, [], ◌++◌, take, arith}
 use Rattle.std.proofs.lemmas.Bool.{leb-true}
 use Rattle.octets.proofs.Hexed.{bytes_from}
 use Rattle.line_store.specs.Texts.{line_then}
@@ -12,19 +12,19 @@ returns c =
     let s = c.args.self.now in
     let name = c.args.name.now in
     let body = c.args.body.now in
-    let room = leb-true _ _ c.requires.3 in
+    let room = leb-true _ _ c.requires.room_left in
     let end = c.write_line-self.result in
     let w = c.write_line-self.ensures in
     let u = take end c.write_line-self.new.buffer in
-    let y = bytes_from body (λ i. omega (arith, c.type-inv.body i)) in
-    let g : u ≡ text_in s ++ line_then (name, body) [] = text_grown s.buffer.now c.write_line-self.new.buffer name body s.used end c.requires.0.within w.end w.after in
-    let read = line_is_text (text_in s) u name body c.requires.0.told g c.requires.1.0 c.requires.1.1 y c.requires.2 in
+    let y = bytes_from body (λ i. omega (arith, c.type_inv.body i)) in
+    let g : u ≡ text_in s ++ line_then (name, body) [] = text_grown s.buffer.now c.write_line-self.new.buffer name body s.used end c.requires.sound_before.within w.end w.after in
+    let read = line_is_text (text_in s) u name body c.requires.sound_before.told g c.requires.entry_formed.0 c.requires.entry_formed.1 y c.requires.name_free in
     record {
       sound = record {
         within = omega (arith, c.write_line-self.auto.buffer, room, w.end);
         told = read;
         lawful = held_lawful u read;
       };
-      meaning = line_with (text_in s) u name body c.requires.0.told g c.requires.1.0 c.requires.1.1 y c.requires.2;
+      meaning = line_with (text_in s) u name body c.requires.sound_before.told g c.requires.entry_formed.0 c.requires.entry_formed.1 y c.requires.name_free;
       appended = record { used_is = w.end; buffer_is = w.after };
     }

@@ -1,4 +1,4 @@
-use Rattle.std.proofs.Common.{◌≡◌, ℕ, ◌-◌, ◌*◌, ◌≤◌, length, take, None, sym, ap, ◌∙◌, subst, arith, MatchOption}
+use Rattle.std.proofs.Common.{◌≡◌, ℕ, ◌-◌, take, None, sym, ap, ◌∙◌, subst, arith, MatchOption}
 use Rattle.line_store.specs.Texts.{entries_of, text_of}
 use Rattle.line_store.specs.Marked.{Holds}
 use Rattle.line_store.specs.Held.{text_in, meaning_of}
@@ -13,7 +13,10 @@ pub find_name-requires : goal.find_name-requires
 find_name-requires c =
     let s = c.args.self.now in
     let k = name_short c.args.name.now (sym c.if-not-is_name.ensures) in
-    ((entries_of (text_in s), (is_text_entries (text_in s) c.requires.told).0 ∙ ap (λ z. take z s.buffer.now) (omega arith)), omega arith)
+    record {
+      of_entries = (entries_of (text_in s), (is_text_entries (text_in s) c.requires.told).0 ∙ ap (λ z. take z s.buffer.now) (omega arith));
+      key_room = omega arith;
+    }
 
 pub returns : goal.returns
 returns c =

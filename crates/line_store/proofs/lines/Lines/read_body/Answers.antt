@@ -1,4 +1,4 @@
-use Rattle.std.proofs.Common.{◌≡◌, ℕ, ◌-◌, cond, length, take, is_some, sym, refl, ap, ◌∙◌, subst, arith}
+use Rattle.std.proofs.Common.{◌≡◌, ℕ, ◌-◌, cond, take, sym, ap, ◌∙◌, subst, arith}
 use Rattle.octets.specs.Buffers.{over}
 use Rattle.store.specs.Meanings.{body_of}
 use Rattle.store.proofs.Looking.{body_is}
@@ -15,10 +15,10 @@ returns c =
     let out = c.args.out.now in
     let e : s.used ≡ s.used - 0 = omega arith in
     let h : Holds (take (s.used - 0) s.buffer.now) m c.in-Some.marks = subst (λ (z : ℕ). Holds (take z s.buffer.now) m c.in-Some.marks) e c.in-Some.ensures in
-    let v = body_is (entries_of (text_in s)) (is_text_entries (text_in s) c.requires.0.told).1 c.args.name.now h.there in
+    let v = body_is (entries_of (text_in s)) (is_text_entries (text_in s) c.requires.sound.told).1 c.args.name.now h.there in
     let k = c.copy_body.ensures (body_of m) h.body v.1 in
     record {
       there = sym h.there;
-      long = (k.0, omega (arith, k.0, v.0, c.requires.1));
+      long = (k.0, omega (arith, k.0, v.0, c.requires.space));
       after_is = k.1 ∙ sym (ap (λ z. cond z (over (body_of m) out) out) h.there);
     }
