@@ -1,7 +1,6 @@
 -- The bytes that a word stands for.
 use Rattle.std.specs.Prelude.{◌≡◌, ℕ, Bool, cond, ◌&&◌, List, length, drop, Some, None, Ok, Err, vec_items, Option, Result, Vec, ◌==◌, nat_le, slice_index}
 use Rattle.octets.specs.Hex.{is_hex, unhex}
-use Rattle.language.specs.declared.mistake.Mistake.{Mistake}
 use Rattle.language.specs.declared.mistake.Mistake.TheVariants.{NotHexadecimal}
 use Rattle.language.specs.declared.mistake.Trouble.{Trouble}
 use Rattle.language.specs.declared.mistake.Trouble.TheVariants.{Script, Memory}

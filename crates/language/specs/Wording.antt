@@ -1,5 +1,5 @@
 -- The words of a line that are still to come.
-use Rattle.std.specs.Prelude.{◌≡◌, ℕ, ◌+◌, Bool, true, cond, List, [], length, drop, Some, None, Option, nat_le}
+use Rattle.std.specs.Prelude.{◌≡◌, ℕ, ◌+◌, Bool, cond, List, [], length, drop, Some, None, Option, nat_le}
 use Rattle.octets.specs.Search.{up_to}
 use Rattle.language.specs.declared.mistake.Mistake.TheVariants.{EmptyWord, MissingWord, ExtraWord, NotANumber}
 use Rattle.language.specs.declared.mistake.Trouble.{Trouble}

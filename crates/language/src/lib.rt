@@ -1,4 +1,6 @@
 // The language of scripts: lines, words and calls, and the text of answers.
+#![tactic(auto)]
+
 pub mod answer;
 pub mod call;
 pub mod mistake;

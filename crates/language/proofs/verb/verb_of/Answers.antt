@@ -1,17 +1,18 @@
 use Rattle.std.proofs.Common.{◌≡◌, sym, ◌∙◌, arith, below_more}
 use Rattle.std.proofs.lemmas.Bool.{both_ways}
+use Rattle.std.proofs.lemmas.Bool.Decides.{Decides-eqb}
 use Rattle.std.proofs.lemmas.Slice.Eq.{slice_eq-Decides}
 use Rattle.language.specs.declared.verb.Verb.TheVariants.{Open, File, Get, Has, Fits, Entries, Text, Hash, Key, Sign, Check}
 use Rattle.language.specs.Names.{name_of}
 use Rattle.language.proofs.verb.verb_of.Goals as goal
 
 pub returns-then-eq : goal.returns-then-eq
-returns-then-eq c = (slice_eq-Decides _ _ _ c.eq.ensures).0 c.if-eq.true ∙ c.name.ensures
+returns-then-eq c = (slice_eq-Decides Decides-eqb _ _ _ c.eq.ensures).0 c.if-eq.true ∙ c.name.ensures
 
 pub loop-verb-preserved : goal.loop-verb-preserved
 loop-verb-preserved c =
     below_more _ _ c.loop-verb.invariant
-    (λ e. both_ways _ c.if-eq.false ((slice_eq-Decides _ _ _ c.eq.ensures).1 (e ∙ sym c.name.ensures)))
+    (λ e. both_ways _ c.if-eq.false ((slice_eq-Decides Decides-eqb _ _ _ c.eq.ensures).1 (e ∙ sym c.name.ensures)))
 
 -- each call's name stands in the table
 pub returns : goal.returns

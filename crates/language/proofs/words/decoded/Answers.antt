@@ -1,4 +1,4 @@
-use Rattle.std.proofs.Common.{◌≡◌, ◌*◌, ◌/◌, true, cond, length, drop, Some, None, sym, ap, ◌∙◌, arith}
+use Rattle.std.proofs.Common.{◌≡◌, ◌*◌, ◌/◌, true, cond, vec_len, length, drop, Some, None, sym, ap, ◌∙◌, arith}
 use Rattle.std.proofs.lemmas.List.{take_at}
 use Rattle.octets.specs.Hex.{is_hex, unhex}
 use Rattle.octets.proofs.Hexed.{hex_long, length-unhex, unhex_fills}
@@ -10,9 +10,9 @@ returns-in-Ok c =
     let out = c.as_mut_slice.result.now in
     let written = c.read.new.out in
     let h : is_hex s ≡ true = sym c.is_hex.ensures ∙ c.if-not-is_hex.false in
-    let half : c.in-Ok.bytes.len ≡ length s / 2 = c.in-Ok.ensures.made.1 in
+    let half : vec_len c.in-Ok.bytes ≡ length s / 2 = c.in-Ok.ensures.len in
     let long : length s ≡ 2 * length out = omega (arith, c.as_mut_slice.ensures.len, half, hex_long s h) in
     let e : written ≡ unhex s = c.read.ensures ∙ unhex_fills out s long in
-    let n : length written ≡ c.in-Ok.bytes.len = omega (arith, ap length e, length-unhex s, half) in
-    let t = take_at written (drop (length written) c.in-Ok.bytes.items) c.in-Ok.bytes.len n ∙ e in
+    let n : length written ≡ vec_len c.in-Ok.bytes = omega (arith, ap length e, length-unhex s, half) in
+    let t = take_at written (drop (length written) c.in-Ok.bytes.items) (vec_len c.in-Ok.bytes) n ∙ e in
     ap (λ b. cond b (Some (unhex s)) None) h ∙ ap (λ z. Some z) (sym t)

@@ -1,4 +1,4 @@
-use Rattle.std.proofs.Common.{ℕ, cond, List, drop, Some, Option, sym, ap, ◌∙◌, subst}
+use Rattle.std.proofs.Common.{ℕ, cond, List, drop, Some, Option, ap, ◌∙◌, subst}
 use Rattle.std.proofs.lemmas.List.{take_rest}
 use Rattle.language.specs.Spelling.{coded_by, Gives}
 use Rattle.language.proofs.words.spelt.Goals as goal

@@ -7,6 +7,6 @@ use Rattle.language.proofs.answer.Answer.trouble.Goals as goal
 pub returns-in-Script : goal.returns-in-Script
 returns-in-Script c =
     let P : Trouble → Type 0 = λ t. Tells c.args.self.now c.line.new.self c.args.line_number t in
-    let told = adds_both _ _ _ _ _ c.text_in-Script.ensures c.line.ensures in
+    let told = adds_both _ _ _ _ _ c.text-in-Script.ensures c.line.ensures in
     subst P (sym c.in-Script.is)
     (c.message.result.now, adds_both _ _ _ _ _ c.text.ensures (adds_both _ _ _ _ _ c.number.ensures told))
