@@ -105,12 +105,12 @@ mod tests {
         let mut buffer = vec![in heap; 0; 200_000]?;
         let mut lines = LineStore::new(buffer.as_mut_slice());
         let answers = drive(heap, &mut lines)?;
-        assert_eq!(rt; answers.as_slice(), &ROUNDS);
+        assert_eq!(rt; answers.as_slice(), ROUNDS.as_slice());
         let mut rows = vec![in heap; Row { name: 0, body: 0 }; 20]?;
         let mut block = vec![in heap; 0; 100_000]?;
         let mut table = TableStore::new(rows.as_mut_slice(), block.as_mut_slice());
         let answers = drive(heap, &mut table)?;
-        assert_eq!(rt; answers.as_slice(), &ROUNDS);
+        assert_eq!(rt; answers.as_slice(), ROUNDS.as_slice());
         Ok(())
     }
 
@@ -125,7 +125,7 @@ mod tests {
         assert_eq!(rt; file_code(&mut store, b"d", b"ef"), 22);
         assert_eq!(rt; file_code(&mut store, b"a", b"ef"), 21);
         assert_eq!(rt; file_code(&mut store, b"d", b"e"), 0);
-        assert_eq!(rt; store.text(), b"61 6263\n64 65\n");
+        assert_eq!(rt; store.text(), b"61 6263\n64 65\n".as_slice());
         assert!(rt; !store.fits(0, 0));
         assert_eq!(rt; file_code(&mut store, b"f", b""), 22);
         Ok(())
@@ -177,7 +177,7 @@ mod tests {
         assert_eq!(rt; open_code(&mut store, 12), 0);
         assert!(rt; store.has(b"a") && store.has(b"d"));
         assert_eq!(rt; open_code(&mut store, 11), 12);
-        assert_eq!(rt; store.text(), b"61 6263\n64 \n");
+        assert_eq!(rt; store.text(), b"61 6263\n64 \n".as_slice());
         assert_eq!(rt; open_code(&mut store, 8), 0);
         assert!(rt; store.has(b"a") && !store.has(b"d"));
         assert_eq!(rt; open_code(&mut store, 0), 0);
