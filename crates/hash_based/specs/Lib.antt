@@ -1,2 +1,2 @@
 pub mod Joined
-pub mod HashBasedSchemeLemmas
+pub mod JoinedLemmas

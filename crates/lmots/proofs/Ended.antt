@@ -1,7 +1,6 @@
 -- Chains that come to their ends one by one.
-use Rattle.std.proofs.Common.{◌≡◌, ℕ, zero, suc, ◌+◌, ◌-◌, ◌*◌, ◌<◌, ◌≤◌, List, [], ◌∷◌, get_or, sym, ap, ◌∙◌, subst, ⊎_elim, arith}
+use Rattle.std.proofs.Common.{◌≡◌, ℕ, zero, suc, ◌+◌, ◌-◌, ◌<◌, ◌≤◌, List, [], ◌∷◌, get_or, ap, ◌∙◌, subst, ⊎_elim, arith}
 use Rattle.std.proofs.lemmas.Bool.{cases_lt}
-use Rattle.octets.specs.Parts.{cut}
 use Rattle.sha256_lanes.proofs.Four.{below4}
 use Rattle.lmots.specs.declared.run.Run.{Run}
 use Rattle.lmots.specs.LmOts.{steps, through}

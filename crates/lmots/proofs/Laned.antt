@@ -1,10 +1,10 @@
 -- Chains in lanes: what a lane takes up, and how it goes on.
-use Rattle.std.proofs.Common.{◌≡◌, ℕ, ◌+◌, ◌-◌, ◌*◌, ◌/◌, ◌%◌, ◌^◌, ◌<◌, ◌≤◌, cond, ltb, List, [], ◌∷◌, ◌++◌, sym, refl, ap, ◌∙◌, ⊎_elim, arith}
+use Rattle.std.proofs.Common.{◌≡◌, ℕ, ◌+◌, ◌-◌, ◌*◌, ◌/◌, ◌%◌, ◌^◌, ◌<◌, ◌≤◌, cond, ltb, List, ◌∷◌, ◌++◌, sym, ap, ◌∙◌, ⊎_elim, arith}
 use lib.Lanes.{top}
 use Rattle.std.proofs.lemmas.Bool.{cases_lt, lt-ltb, le-ltb}
 use Rattle.octets.specs.Numbers.{u32}
 use Rattle.lmots.specs.LmOts.{step, steps}
-use Rattle.lmots.specs.Chains.{none, first, is_step}
+use Rattle.lmots.proofs.Stepping.{none, first, is_step}
 
 pub joined_word : (x y : ℕ) → y < 2 ^ 32 → x / 65536 % 256 * 16777216 + x / 256 % 256 * 65536 + x % 256 * 256 + y / 16777216 % 256 ≡ (x * 2 ^ 8 % 2 ^ 32 + y / 2 ^ 24) % 2 ^ 32
 joined_word x y h =

@@ -4,5 +4,6 @@ mod Ended
 mod Laned
 mod Ordered
 mod Spelling
+mod Stepping
 mod Summed
 mod Verdicts

@@ -1,5 +1,5 @@
 -- The laws of LM-OTS as a signature scheme.
-use Rattle.std.specs.Prelude.{◌≡◌, ℕ, ◌^◌, ◌<◌, ◌≤◌, Bool, true, ◌&&◌, List, length, drop, ◌==◌, refl}
+use Rattle.std.specs.Prelude.{◌≡◌, ℕ, ◌^◌, ◌<◌, ◌≤◌, true, ◌&&◌, List, length, drop, ◌==◌, refl}
 use Rattle.std.proofs.Common.{sym, ap, subst, ◌∙◌, arith}
 use Rattle.std.specs.Str.{bytes_eq}
 use Rattle.std.proofs.lemmas.Slice.Eq.{bytes_eq-Decides}
@@ -23,6 +23,9 @@ formed_bounded w k h =
     let l : length k ≡ 56 = eqb-true _ _ (and_parts (number k == 4) (length k == 56) a.1).1 in
     (keytype_from w word a.0 refl, omega arith, omega arith)
 
+pub formed_short : (w k : List ℕ) → is_formed w k ≡ true → (1 ≤ 1124) × (1124 ≤ 2560)
+formed_short w k h = (omega arith, omega arith)
+
 pub held_exact : (w k m z : List ℕ) → is_held w k m z ≡ true → (is_formed w k ≡ true) × (length z ≡ 1124)
 unfolding holds
 held_exact w k m z h =
@@ -43,6 +46,9 @@ signed_held I q leaf SEED m hI hq e =
 -- of a secret
 pub secret_formed : (s : OneTimeSecret) → is_formed word (public_of s) ≡ true
 secret_formed s = own_formed (bytes s.id) 0 (bytes s.seed) (omega (arith, length-bytes s.id, s.whole))
+
+pub secret_limited : (s : OneTimeSecret) → (1 ≤ 1) × (1 < 2 ^ 32)
+secret_limited s = (omega arith, omega arith)
 
 pub secret_held : (s : OneTimeSecret) (leaf : ℕ) (m : List ℕ) → leaf < 1 → is_held word (public_of s) m (signed_by s leaf m) ≡ true
 secret_held s leaf m l = signed_held (bytes s.id) 0 leaf (bytes s.seed) m (omega (arith, length-bytes s.id, s.whole)) (omega arith) (omega arith)

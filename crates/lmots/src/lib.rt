@@ -1,4 +1,6 @@
 // LM-OTS: one-time signatures by chains of hashes, as RFC 8554 defines them (type 4, 34 chains).
+#![tactic(auto)]
+
 mod beside;
 mod chain;
 pub mod checking;

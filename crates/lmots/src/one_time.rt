@@ -3,8 +3,7 @@ ghost use Rattle.std.specs.Prelude.{◌≡◌};
 ghost use Rattle.std.specs.Str.{bytes_eq};
 ghost use Rattle.sha256.specs.Sha256.{bytes};
 ghost use Rattle.lmots.specs.Keyed.{word, is_formed, is_held, public_of, signed_by};
-ghost use Rattle.lmots.specs.KeyedLemmas.{formed_bounded, held_exact, secret_formed, secret_held};
-ghost use Rattle.std.proofs.Common.{rules};
+ghost use Rattle.lmots.specs.KeyedLemmas.{formed_bounded, formed_short, held_exact, secret_formed, secret_limited, secret_held};
 
 use crate::leaf::Leaf;
 use crate::secret::OneTimeSecret;
@@ -63,13 +62,13 @@ impl Scheme for LmOts {
 
     ghost bounded = { formed_bounded };
 
-    ghost short = { Prim.search rules };
+    ghost short = { formed_short };
 
     ghost exact = { held_exact };
 
     ghost own = { secret_formed };
 
-    ghost limited = { Prim.search rules };
+    ghost limited = { secret_limited };
 
     ghost complete = { secret_held };
 

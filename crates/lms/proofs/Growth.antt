@@ -1,11 +1,8 @@
 -- A row of nodes, from the last to the first.
-use Rattle.std.proofs.Common.{◌≡◌, ℕ, zero, suc, ◌+◌, ◌-◌, ◌*◌, ◌/◌, ◌%◌, ◌^◌, ◌<◌, ◌≤◌, cond, eqb, ◌⊎◌, List, [], ◌∷◌, ◌++◌, length, get_or, take, drop, sym, refl, ap, ◌∙◌, subst, inl, inr, ⊎_elim, append_assoc, append-nil, pow-suc, arith, length-append, length-drop, pow_pos, pow_mono}
-use borrow.Rule.Slice.PartMut.{put_mid}
-use Rattle.std.proofs.lemmas.Slice.{take-put_mid}
-use Rattle.std.proofs.lemmas.List.{take_at, drop_at, drop-drop, drop-take, take_all, length-take-le}
+use Rattle.std.proofs.Common.{◌≡◌, ℕ, zero, suc, ◌+◌, ◌-◌, ◌*◌, ◌/◌, ◌%◌, ◌^◌, ◌<◌, ◌≤◌, eqb, List, [], ◌++◌, length, take, drop, sym, refl, ap, ◌∙◌, subst, ⊎_elim, append_assoc, pow-suc, arith, pow_pos, pow_mono}
+use Rattle.std.proofs.lemmas.List.{drop_at, drop-drop, drop-take, length-take-le}
 use Rattle.std.proofs.lemmas.Bool.{cases_lt, cond_both, eqb-true, eqb-false}
-use Rattle.octets.specs.Numbers.{u32, number}
-use Rattle.octets.specs.Parts.{cut, row}
+use Rattle.octets.specs.Parts.{cut}
 use Rattle.lmots.specs.LmOts as LmOts
 use Rattle.lms.specs.Lms as Lms
 use Rattle.lms.specs.Lms.{beside}

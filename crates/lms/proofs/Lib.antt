@@ -1,3 +1,4 @@
 mod Acceptance
 mod Growth
+mod Levels
 mod Verdicts

@@ -1,14 +1,11 @@
 -- When a signature holds, by the tests that the code makes.
-use Rattle.std.proofs.Common.{◌≡◌, ℕ, ◌+◌, ◌-◌, ◌*◌, ◌^◌, ◌<◌, ◌≤◌, Bool, true, false, ◌&&◌, eqb, ltb, List, length, take, drop, sym, refl, ap, ◌∙◌, subst, arith, length-drop}
+use Rattle.std.proofs.Common.{◌≡◌, ℕ, ◌+◌, ◌*◌, ◌^◌, ◌<◌, ◌≤◌, Bool, true, false, ◌&&◌, eqb, ltb, List, length, take, drop, sym, refl, ap, ◌∙◌, subst, arith, length-drop}
 use Rattle.std.specs.Str.{bytes_eq}
-use Rattle.std.proofs.lemmas.List.{take_all, drop-drop}
+use Rattle.std.proofs.lemmas.List.{drop-drop}
 use Rattle.std.proofs.lemmas.Bool.{and_from, and_parts, eq-eqb, eqb-true, lt-ltb, ltb-true}
 use Rattle.octets.specs.Numbers.{number}
 use Rattle.octets.specs.Parts.{cut}
 use Rattle.lmots.specs.LmOts.{yielded}
-use Rattle.lms.specs.declared.kind.LmsType.{LmsType}
-use Rattle.lms.specs.declared.kind.LmsType.TheVariants.{Sha256M32H5, Sha256M32H10}
-use Rattle.lms.specs.Kinds.{type_number}
 use Rattle.lms.specs.Lms.{known, height, suitable, signature_size, holds, root, leaf, climb}
 
 none : (a b c d e f g t : Bool) → ((a ≡ true) × (b ≡ true) × (c ≡ true) × (d ≡ true) × (e ≡ true) × (f ≡ true) × (g ≡ true) → ⊥) → false ≡ ((a && (b && c)) && (d && (e && (f && (g && t)))))
@@ -108,8 +105,3 @@ suits_parts T q o parts h =
     let b = and_parts (eqb (number (drop 1120 parts)) T) (ltb q (2 ^ height T) && eqb (length parts) (1124 + 32 * height T)) a.1 in
     let d = and_parts (ltb q (2 ^ height T)) (eqb (length parts) (1124 + 32 * height T)) b.1 in
     (ltb-true _ _ d.0, eqb-true _ _ d.1)
-
--- the types that there are, are known
-pub kinds_known : (t : LmsType) → known (type_number t) ≡ true
-kinds_known Sha256M32H5 = refl
-kinds_known Sha256M32H10 = refl

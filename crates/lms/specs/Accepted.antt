@@ -1,5 +1,5 @@
 -- What it means that a signature is accepted, by the climb of RFC 8554 (algorithm 6a) and not by a function.
-use Rattle.std.specs.Prelude.{◌≡◌, ℕ, ◌+◌, ◌*◌, ◌/◌, ◌%◌, ◌^◌, ◌<◌, true, List, [], ◌++◌, length, drop}
+use Rattle.std.specs.Prelude.{◌≡◌, ℕ, ◌+◌, ◌/◌, ◌%◌, ◌^◌, ◌<◌, true, List, [], ◌++◌, length, drop}
 use Rattle.octets.specs.Numbers.{number}
 use Rattle.octets.specs.Parts.{cut}
 use Rattle.lmots.specs.LmOts.{yielded}

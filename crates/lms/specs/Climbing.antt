@@ -1,14 +1,14 @@
 -- Climbing from a leaf by its siblings gives node 1, so a signature that is made holds.
-use Rattle.std.specs.Prelude.{◌≡◌, ℕ, zero, suc, ◌+◌, ◌-◌, ◌*◌, ◌/◌, ◌%◌, ◌^◌, ◌<◌, ◌≤◌, Bool, true, false, cond, ◌&&◌, ◌⊎◌, List, [], ◌∷◌, ◌++◌, length, drop, nat_eq, nat_lt, slice_index}
+use Rattle.std.specs.Prelude.{◌≡◌, ℕ, zero, suc, ◌+◌, ◌-◌, ◌*◌, ◌/◌, ◌%◌, ◌^◌, ◌<◌, ◌≤◌, true, false, cond, List, ◌++◌, length, drop, nat_eq, nat_lt, slice_index}
 use Rattle.std.proofs.Math.Path.{refl, sym, ap}
-use Rattle.std.proofs.Common.{subst, ◌∙◌, inl, inr}
+use Rattle.std.proofs.Common.{◌∙◌}
 use Rattle.std.proofs.Math.Logic.{⊎_elim}
 use Rattle.std.proofs.Math.Nat.{pow-suc}
 use native.Mathlib.Omega.{arith}
 use Rattle.std.proofs.Math.ListN.{length-append}
 use Rattle.std.specs.Str.{bytes_eq}
-use Rattle.std.proofs.lemmas.List.{take_at, drop_at, drop-drop, take_all}
-use Rattle.std.proofs.lemmas.Bool.{cases_lt, and_from, eq-eqb, lt-ltb, ne_eqb, cond-true, cond-false}
+use Rattle.std.proofs.lemmas.List.{take_at, drop_at, drop-drop}
+use Rattle.std.proofs.lemmas.Bool.{cases_lt, and_from, eq-eqb, lt-ltb, ne_eqb}
 use Rattle.octets.specs.Numbers.{u32, number}
 use Rattle.octets.specs.Parts.{cut, row}
 use Rattle.lmots.specs.LmOts as LmOts
@@ -119,16 +119,3 @@ module _ (H : List ℕ → List ℕ) (sized : (bs : List ℕ) → length (H bs) 
       (and_from _ _ (eq-eqb _ _ (ap number d))
       (and_from _ _ (ap (λ v. nat_lt v (2 ^ height (number (u32 T)))) eq ∙ ap (λ v. nat_lt q (2 ^ height v)) eT ∙ lt-ltb _ _ hq)
       (and_from _ _ (eq-eqb _ _ (length-signature T I SEED q m ∙ ap (λ v. 1132 + 32 * height v) (sym eT))) f)))
-
-pub climb_none : (H : List ℕ → List ℕ) (I : List ℕ) (n r : ℕ) (t path : List ℕ) → n ≡ 0 → Lms.climb H I n r t path ≡ t
-unfolding Lms.climb
-climb_none H I n r t path e = ap (λ k. Lms.climb H I k r t path) e
-
-pub climb_more : (H : List ℕ → List ℕ) (I : List ℕ) (n k r : ℕ) (t path : List ℕ) → k < n
-    → Lms.climb H I (n - k) r t (drop (32 * k) path) ≡ Lms.climb H I (n - (k + 1)) (r / 2) (Lms.above H I r t (cut (32 * k) 32 path)) (drop (32 * (k + 1)) path)
-unfolding Lms.climb
-climb_more H I n k r t path l =
-    let e : n - k ≡ suc (n - (k + 1)) = omega arith in
-    let f : 32 * k + 32 ≡ 32 * (k + 1) = omega arith in
-    ap (λ v. Lms.climb H I v r t (drop (32 * k) path)) e
-    ∙ ap (Lms.climb H I (n - (k + 1)) (r / 2) (Lms.above H I r t (cut (32 * k) 32 path))) (drop-drop 32 (32 * k) path ∙ ap (λ v. drop v path) f)

@@ -1,9 +1,9 @@
 -- The laws of LMS as a signature scheme.
-use Rattle.std.specs.Prelude.{◌≡◌, ℕ, ◌+◌, ◌*◌, ◌^◌, ◌<◌, ◌≤◌, Bool, true, ◌&&◌, List, ◌++◌, length, drop, ◌==◌, nat_lt, refl}
-use Rattle.std.proofs.Common.{sym, ap, ◌∙◌, arith}
+use Rattle.std.specs.Prelude.{◌≡◌, ℕ, ◌+◌, ◌*◌, ◌^◌, ◌<◌, ◌≤◌, Bool, true, ◌&&◌, List, length, drop, ◌==◌, nat_lt, refl}
+use Rattle.std.proofs.Common.{ap, ◌∙◌, arith}
 use Rattle.std.specs.Str.{bytes_eq}
 use Rattle.std.proofs.lemmas.Bool.{and_parts, and_from, eqb-true, eq-eqb, cond_both}
-use Rattle.octets.specs.Numbers.{u32, number}
+use Rattle.octets.specs.Numbers.{number}
 use Rattle.octets.specs.Parts.{cut}
 use Rattle.octets.proofs.Numbered.{number-u32}
 use Rattle.sha256.specs.Sha256.{bytes, sha256}
@@ -27,6 +27,9 @@ formed_bounded w k h =
 
 pub size_short : (k : List ℕ) → (1 ≤ signature_size k) × (signature_size k ≤ 2560)
 size_short k = cond_both (number k == 5) 5 10 (λ h. (1 ≤ 1132 + 32 * h) × (1132 + 32 * h ≤ 2560)) (λ _. (omega arith, omega arith)) (λ _. (omega arith, omega arith))
+
+pub formed_short : (w k : List ℕ) → is_formed w k ≡ true → (1 ≤ signature_size k) × (signature_size k ≤ 2560)
+formed_short w k h = size_short k
 
 pub held_exact : (w k m z : List ℕ) → is_held w k m z ≡ true → (is_formed w k ≡ true) × (length z ≡ signature_size k)
 unfolding holds

@@ -40,7 +40,7 @@ fn leads(kind: LmsType, rest: &[u8], leaf: u32, message: &[u8], parts: &[u8]) ->
     let r = kind.leaves() + leaf;
     let bottom = leaf_node(id, r, &key);
     let root = climb(id, kind.height(), r, bottom, &parts[BEFORE_PATH..]);
-    &root == top
+    root.as_slice() == top
 }
 
 // Whether a signature of a leaf and a one-time type, with these parts behind them, is one of a tree of this type.

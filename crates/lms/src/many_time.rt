@@ -4,7 +4,7 @@ ghost use Rattle.std.specs.Str.{bytes_eq};
 ghost use Rattle.sha256.specs.Sha256.{bytes};
 ghost use Rattle.lms.specs.Keyed.{word, is_formed, is_held, public_of, leaves_of, signed_by};
 ghost use Rattle.lms.specs.Lms.{signature_size};
-ghost use Rattle.lms.specs.KeyedLemmas.{formed_bounded, size_short, held_exact, secret_formed, secret_limited, secret_held};
+ghost use Rattle.lms.specs.KeyedLemmas.{formed_bounded, formed_short, held_exact, secret_formed, secret_limited, secret_held};
 
 use crate::kind::LmsType;
 use crate::secret::TreeSecret;
@@ -70,7 +70,7 @@ impl Scheme for Lms {
 
     ghost bounded = { formed_bounded };
 
-    ghost short = { λ w k h. size_short k };
+    ghost short = { formed_short };
 
     ghost exact = { held_exact };
 

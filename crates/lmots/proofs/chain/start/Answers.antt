@@ -1,7 +1,7 @@
-use Rattle.std.proofs.Common.{◌≡◌, refl, arith}
+use Rattle.std.proofs.Common.{refl, arith}
 use Rattle.sha256.specs.Sha256.{bytes, sha256}
 use Rattle.lmots.specs.LmOts.{x, step}
-use Rattle.lmots.specs.Chains.{is_step}
+use Rattle.lmots.proofs.Stepping.{is_step}
 use Rattle.lmots.proofs.chain.start.Goals as goal
 
 pub returns : goal.returns

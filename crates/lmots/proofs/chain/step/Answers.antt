@@ -1,4 +1,4 @@
-use Rattle.std.proofs.Common.{◌≡◌, ℕ, ◌^◌, ◌<◌, length, get_or, arith}
+use Rattle.std.proofs.Common.{◌≡◌, length, arith}
 use Rattle.lmots.proofs.Block.{step_is}
 use Rattle.lmots.proofs.chain.step.Goals as goal
 

@@ -1,6 +1,5 @@
-use Rattle.std.proofs.Common.{◌≡◌, ℕ, length, sym, ◌∙◌, arith}
-use Rattle.std.proofs.lemmas.Slice.Eq.{bytes_eq-Decides, slice_eq-Decides}
-use Rattle.std.proofs.lemmas.Bool.Decides.{same_from_decides}
+use Rattle.std.proofs.Common.{◌≡◌, length, ap, ◌∙◌, arith}
+use Rattle.std.specs.Str.{bytes_eq}
 use Rattle.octets.specs.Parts.{cut}
 use Rattle.sha256.specs.Sha256.{bytes, sha256}
 use Rattle.lmots.proofs.Verdicts.{agreed}
@@ -15,4 +14,4 @@ returns-in-Some-candidate c =
     let lt : length tail ≡ 36 = omega arith in
     agreed sha256 rest c.args.message.now c.args.parts.now (bytes c.id_words.result) tail c.in-Some-candidate.found c.leading_number.result c.eq.result
     (c.id_words.ensures ∙ s.0) s.1 lt (omega (arith, s.2)) found.0 c.leading_number.ensures found.1
-    (same_from_decides _ _ (slice_eq-Decides _ _ _ c.eq.ensures) (bytes_eq-Decides c.in-Some-candidate.found (cut 4 32 tail)))
+    (c.eq.ensures ∙ ap (λ v. bytes_eq v (cut 4 32 tail)) c.as_slice.ensures)

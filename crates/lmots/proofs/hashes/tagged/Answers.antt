@@ -1,4 +1,4 @@
-use Rattle.std.proofs.Common.{◌≡◌, List, [], ◌∷◌, ◌++◌, ap, ◌∙◌, subst, append_assoc}
+use Rattle.std.proofs.Common.{◌≡◌, [], ◌∷◌, ◌++◌, ap, ◌∙◌, subst, append_assoc}
 use Rattle.sha256.specs.Sha256.{bytes}
 use Rattle.sha256.specs.Hashed.{Hashes}
 use Rattle.octets.specs.Numbers.{u32}

@@ -1,4 +1,4 @@
-use Rattle.std.proofs.Common.{ℕ, ◌<◌, arith, lit<}
+use Rattle.std.proofs.Common.{arith, lit<}
 use Rattle.sha256_lanes.proofs.Four.{below4}
 use Rattle.lmots.proofs.lanes.four_chains.Goals as goal
 

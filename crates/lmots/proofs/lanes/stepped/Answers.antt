@@ -1,8 +1,8 @@
-use Rattle.std.proofs.Common.{◌≡◌, ℕ, ◌+◌, ◌-◌, ◌≤◌, get_or, sym, ap, ◌∙◌, arith}
+use Rattle.std.proofs.Common.{◌≡◌, ◌+◌, ◌-◌, ◌≤◌, get_or, sym, ap, ◌∙◌, arith}
 use Rattle.sha256.specs.Sha256.{bytes, sha256}
 use Rattle.sha256_lanes.specs.Lane.{lane}
 use Rattle.lmots.specs.LmOts.{steps}
-use Rattle.lmots.specs.Chains.{none}
+use Rattle.lmots.proofs.Stepping.{none}
 use Rattle.lmots.proofs.Laned.{lane_on}
 use Rattle.lmots.proofs.lanes.stepped.Goals as goal
 

@@ -18,6 +18,6 @@ pub returns : goal.returns
 returns c =
     let upto : (k : ℕ) → k < 34 → k < c.loop-i.i = λ k l. omega arith in
     record {
-      each = each_shuffled (Runs c.args.from.now c.args.to.now) _ _ blank 34 c.loop-i.invariant.0 c.sort.ensures.permutation (λ k l. (c.loop-i.invariant.1 k (upto k l)).0);
-      all = found_shuffled (λ run. run.chain) _ _ blank 34 c.loop-i.invariant.0 c.sort.ensures.permutation (λ k l. (c.loop-i.invariant.1 k (upto k l)).1);
+      each = each_shuffled (Runs c.args.from.now c.args.to.now) _ _ blank 34 c.loop-i.invariant.0 c.sort_unstable.ensures.permutation (λ k l. (c.loop-i.invariant.1 k (upto k l)).0);
+      all = found_shuffled (λ run. run.chain) _ _ blank 34 c.loop-i.invariant.0 c.sort_unstable.ensures.permutation (λ k l. (c.loop-i.invariant.1 k (upto k l)).1);
     }

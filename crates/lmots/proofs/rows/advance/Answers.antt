@@ -1,10 +1,9 @@
-use Rattle.std.proofs.Common.{◌≡◌, ℕ, ◌+◌, ◌*◌, ◌<◌, ◌≤◌, List, length, get_or, subst, arith, lit<}
+use Rattle.std.proofs.Common.{◌≡◌, ℕ, ◌+◌, ◌*◌, ◌<◌, List, get_or, subst, arith, lit<}
 use Rattle.octets.specs.Parts.{cut}
 use Rattle.octets.proofs.Rows.{row_from}
 use Rattle.sha256.specs.Sha256.{bytes, sha256}
 use Rattle.lmots.specs.declared.run.Run.{Run}
 use Rattle.lmots.specs.LmOts.{steps, through}
-use Rattle.lmots.specs.Runs.{Runs, blank}
 use Rattle.lmots.proofs.Ended.{run_end, of_four, two_first, four_more}
 use Rattle.lmots.proofs.rows.advance.Goals as goal
 

@@ -1,11 +1,11 @@
-use Rattle.std.proofs.Common.{◌≡◌, ℕ, ◌*◌, ◌<◌, List, get_or, ap, ◌∙◌, lit<}
+use Rattle.std.proofs.Common.{◌≡◌, ℕ, ◌*◌, ◌<◌, get_or, ap, ◌∙◌, lit<}
 use Rattle.octets.specs.Parts.{cut}
 use Rattle.sha256.specs.Sha256.{bytes, sha256}
 use Rattle.sha256_lanes.specs.Lane.{lane}
 use Rattle.sha256_lanes.proofs.Four.{below4}
 use Rattle.lmots.specs.declared.run.Run.{Run}
 use Rattle.lmots.specs.LmOts.{steps}
-use Rattle.lmots.specs.Runs.{blank, Ends}
+use Rattle.lmots.specs.Runs.{blank}
 use Rattle.lmots.proofs.Ended.{ends_on}
 use Rattle.lmots.proofs.rows.finish.Goals as goal
 

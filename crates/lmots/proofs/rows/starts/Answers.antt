@@ -1,4 +1,4 @@
-use Rattle.std.proofs.Common.{◌≡◌, ℕ, ◌+◌, ◌*◌, ◌≤◌, List, length, replicate, refl, ap, ◌∙◌, arith}
+use Rattle.std.proofs.Common.{◌≡◌, ℕ, ◌*◌, List, length, replicate, refl, ap, ◌∙◌, arith}
 use Rattle.octets.specs.Buffers.{over}
 use Rattle.octets.specs.Parts.{row}
 use Rattle.octets.proofs.Overs.{over_all}

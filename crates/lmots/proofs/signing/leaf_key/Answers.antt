@@ -1,4 +1,4 @@
-use Rattle.std.proofs.Common.{◌≡◌, ◌∷◌, ◌++◌, ap, ◌∙◌}
+use Rattle.std.proofs.Common.{◌∷◌, ◌++◌, ap, ◌∙◌}
 use Rattle.octets.specs.Numbers.{u32}
 use Rattle.sha256.specs.Sha256.{bytes, sha256}
 use Rattle.sha256.proofs.Sizes.{sized, small}

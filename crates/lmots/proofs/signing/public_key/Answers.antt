@@ -1,9 +1,9 @@
-use Rattle.std.proofs.Common.{◌≡◌, ℕ, ◌+◌, ◌≤◌, List, [], ◌∷◌, ◌++◌, length, replicate, sym, refl, ap, ◌∙◌, append_assoc, arith, length-append}
+use Rattle.std.proofs.Common.{◌≡◌, ℕ, List, [], ◌++◌, length, replicate, refl, ap, ◌∙◌, append_assoc, arith, length-append}
 use Rattle.octets.specs.Buffers.{over}
 use Rattle.octets.specs.Numbers.{u32}
 use Rattle.octets.proofs.Overs.{over_all}
-use Rattle.sha256.specs.Sha256.{bytes, sha256}
-use Rattle.lmots.specs.LmOts.{K, public_key}
+use Rattle.sha256.specs.Sha256.{bytes}
+use Rattle.lmots.specs.LmOts.{public_key}
 use Rattle.lmots.proofs.signing.public_key.Goals as goal
 
 pub returns : goal.returns

@@ -1,6 +1,6 @@
-use Rattle.std.proofs.Common.{◌≡◌, ℕ, ◌+◌, ◌≤◌, List, [], ◌∷◌, ◌++◌, length, replicate, sym, refl, ap, ◌∙◌, append_assoc, arith, length-append}
+use Rattle.std.proofs.Common.{◌≡◌, ℕ, List, [], ◌++◌, length, replicate, refl, ap, ◌∙◌, append_assoc, arith, length-append}
 use Rattle.octets.specs.Buffers.{over}
-use Rattle.octets.specs.Numbers.{u16, u32}
+use Rattle.octets.specs.Numbers.{u32}
 use Rattle.octets.specs.Parts.{row}
 use Rattle.octets.proofs.Overs.{over_all}
 use Rattle.sha256.specs.Sha256.{bytes, sha256}

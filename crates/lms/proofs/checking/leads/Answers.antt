@@ -1,8 +1,6 @@
-use Rattle.std.proofs.Common.{◌≡◌, ℕ, ◌+◌, length, take, drop, sym, refl, ap, ◌∙◌, arith, length-drop}
+use Rattle.std.proofs.Common.{◌≡◌, ◌+◌, length, take, drop, ap, ◌∙◌, arith, length-drop}
 use Rattle.std.specs.Str.{bytes_eq}
 use Rattle.std.proofs.lemmas.List.{take_rest, take_all, drop-drop}
-use Rattle.std.proofs.lemmas.Slice.Eq.{bytes_eq-Decides, slice_eq-Decides}
-use Rattle.std.proofs.lemmas.Bool.Decides.{same_from_decides}
 use Rattle.octets.specs.Parts.{cut}
 use Rattle.sha256.specs.Sha256.{bytes, sha256}
 use Rattle.lms.specs.Kinds.{type_number}
@@ -26,5 +24,5 @@ returns c =
     let r : c.climb-root.result ≡ root sha256 h (cut 4 16 rest) q m (take 1120 parts) (drop 1124 parts) =
     rooted sha256 (cut 4 16 rest) (bytes c.id_words-id.result) c.in-Some-candidate.key c.leaf_node-bottom.result c.climb-root.result m (take 1120 parts) (drop 1124 parts) _
     h c.height.result q _ id found.1 (ap (λ v. v + q) c.leaves.ensures.is) c.height.ensures.is (take_rest parts 1124) c.leaf_node-bottom.ensures c.climb-root.ensures in
-    same_from_decides _ _ (slice_eq-Decides _ _ _ c.eq.ensures) (bytes_eq-Decides c.climb-root.result c.in-Some.top.now)
+    c.eq.ensures ∙ ap (λ v. bytes_eq v c.in-Some.top.now) c.as_slice.ensures
     ∙ ap (λ v. bytes_eq v c.in-Some.top.now) r ∙ ap (bytes_eq (root sha256 h (cut 4 16 rest) q m (take 1120 parts) (drop 1124 parts))) top

@@ -1,12 +1,13 @@
-use Rattle.std.proofs.Common.{◌≡◌, ℕ, ◌+◌, ◌-◌, ◌*◌, ◌^◌, ◌<◌, ◌≤◌, Bool, true, false, List, length, get_or, take, drop, sym, refl, ap, ◌∙◌, arith, length-drop, ltb-false, ltb-true}
+use Rattle.std.proofs.Common.{◌≡◌, ℕ, ◌+◌, ◌*◌, ◌≤◌, List, length, get_or, drop, sym, ap, ◌∙◌, arith, length-drop, ltb-false, ltb-true}
 use Rattle.std.proofs.lemmas.List.{take_rest}
 use Rattle.std.proofs.lemmas.Bool.{both_ways}
 use Rattle.octets.specs.Numbers.{number}
 use Rattle.octets.proofs.Numbered.{number-drop}
 use Rattle.sha256.specs.Sha256.{sha256}
 use Rattle.lms.specs.Kinds.{type_number}
-use Rattle.lms.specs.Lms.{known, height}
-use Rattle.lms.proofs.Verdicts.{Fit, refused, accepted, fit_suits, suits_fit, suits_parts, kinds_known}
+use Rattle.lms.specs.Lms.{known}
+use Rattle.lms.specs.KeyedLemmas.{kind_known}
+use Rattle.lms.proofs.Verdicts.{Fit, refused, accepted, fit_suits, suits_fit, suits_parts}
 use Rattle.lms.proofs.checking.verdict.Goals as goal
 
 pub returns-in_default : goal.returns-in_default
@@ -47,7 +48,7 @@ returns-then-suits c =
     let under : number (drop 4 key) ≡ 4 = sym (ap number k) ∙ sym c.leading_number.ensures ∙ (omega arith) in
     let long : length key ≡ 56 = omega (arith, ltb-true, ltb-false, ap length k, length-drop 4 key) in
     let some : 8 ≤ length sig = omega (arith, ltb-true, ltb-false) in
-    let f : Fit key sig = suits_fit key sig _ _ _ _ kind leaf (c.from_be_bytes-one_time.ensures ∙ one_time sig) s some (kinds_known c.in-Some.kind) under long (sym c.suits.ensures ∙ c.if-suits.true) in
+    let f : Fit key sig = suits_fit key sig _ _ _ _ kind leaf (c.from_be_bytes-one_time.ensures ∙ one_time sig) s some (kind_known c.in-Some.kind).0 under long (sym c.suits.ensures ∙ c.if-suits.true) in
     accepted sha256 key c.args.message.now sig _ _ _ _ c.leads.result f k s kind leaf c.leads.ensures
 
 pub returns-else-suits : goal.returns-else-suits

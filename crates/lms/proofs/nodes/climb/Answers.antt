@@ -1,8 +1,8 @@
-use Rattle.std.proofs.Common.{◌≡◌, ℕ, ◌+◌, ◌-◌, ◌*◌, ◌/◌, ◌<◌, ◌≤◌, length, take, drop, sym, refl, ap, ◌∙◌, arith}
+use Rattle.std.proofs.Common.{◌≡◌, ◌+◌, ◌-◌, ◌*◌, ◌/◌, ◌<◌, drop, sym, ap, ◌∙◌, arith}
 use Rattle.sha256.specs.Sha256.{bytes, sha256}
 use Rattle.octets.specs.Parts.{cut}
 use Rattle.lms.specs.Lms.{climb, inner, half, above}
-use Rattle.lms.specs.Climbing.{climb_none, climb_more}
+use Rattle.lms.proofs.Levels.{climb_none, climb_more}
 use Rattle.lms.proofs.nodes.climb.Goals as goal
 
 pub loop-k-preserved : goal.loop-k-preserved

@@ -1,4 +1,4 @@
-use Rattle.std.proofs.Common.{◌≡◌, ℕ, List, [], ◌∷◌, ◌++◌, sym, refl, ap, ◌∙◌, append_assoc}
+use Rattle.std.proofs.Common.{ℕ, List, [], ◌∷◌, ◌++◌, ap, ◌∙◌, append_assoc}
 use Rattle.sha256.specs.Sha256.{bytes, sha256}
 use Rattle.octets.specs.Numbers.{u32}
 use Rattle.lms.specs.Lms.{inner}

@@ -1,4 +1,4 @@
-use Rattle.std.proofs.Common.{◌≡◌, ℕ, ◌+◌, ◌-◌, ◌^◌, ◌<◌, ◌≤◌, List, [], ◌∷◌, ◌++◌, length, take, drop, replicate, sym, refl, ap, ◌∙◌, append_assoc, arith, length-append, pow_pos}
+use Rattle.std.proofs.Common.{◌≡◌, ℕ, ◌-◌, ◌^◌, ◌<◌, List, [], ◌++◌, length, replicate, refl, ap, ◌∙◌, append_assoc, arith, length-append, pow_pos}
 use Rattle.octets.specs.Buffers.{over}
 use Rattle.octets.specs.Numbers.{u32}
 use Rattle.octets.specs.Parts.{cut}

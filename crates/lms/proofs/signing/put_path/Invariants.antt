@@ -1,4 +1,4 @@
-use Rattle.std.proofs.Common.{◌≡◌, ℕ, ◌+◌, ◌-◌, ◌*◌, ◌<◌, List, ◌++◌, length, take}
+use Rattle.std.proofs.Common.{◌≡◌, ℕ, ◌-◌, ◌*◌, ◌<◌, List, ◌++◌, length}
 use Rattle.octets.specs.Buffers.{over}
 use Rattle.lms.specs.Lms.{picked}
 use Rattle.lms.proofs.signing.put_path.Given as goal

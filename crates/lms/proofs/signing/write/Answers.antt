@@ -1,4 +1,4 @@
-use Rattle.std.proofs.Common.{◌≡◌, ℕ, ◌+◌, ◌-◌, ◌*◌, ◌^◌, ◌<◌, ◌≤◌, List, [], ◌∷◌, ◌++◌, length, sym, refl, ap, ◌∙◌, append_assoc, arith, length-append}
+use Rattle.std.proofs.Common.{◌≡◌, ◌+◌, ◌^◌, [], ◌++◌, length, refl, ap, ◌∙◌, append_assoc, arith, length-append}
 use Rattle.octets.specs.Buffers.{over}
 use Rattle.octets.specs.Numbers.{u32}
 use Rattle.sha256.specs.Sha256.{bytes, sha256}

@@ -1,7 +1,6 @@
-use Rattle.std.proofs.Common.{◌≡◌, ℕ, ◌+◌, ◌-◌, ◌*◌, ◌^◌, ◌≤◌, ◌++◌, length, take, drop, ap, ◌∙◌, subst, arith}
+use Rattle.std.proofs.Common.{◌≡◌, ◌+◌, ◌-◌, ◌*◌, ◌≤◌, ◌++◌, length, take, drop, ap, ◌∙◌, subst, arith}
 use Rattle.octets.specs.Buffers.{over}
 use Rattle.octets.proofs.Overs.{over-take, put_front, put_back}
-use Rattle.octets.proofs.Rows.{length_cut}
 use Rattle.sha256.specs.Sha256.{bytes, sha256}
 use Rattle.lmots.specs.LmOts as LmOts
 use Rattle.lms.specs.Kinds.{type_number}
