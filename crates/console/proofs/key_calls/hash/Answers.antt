@@ -1,4 +1,4 @@
-use Rattle.std.proofs.Common.{ℕ, List, ◌++◌, codes, ap, subst}
+use Rattle.std.proofs.Common.{◌++◌, codes, subst}
 use Rattle.octets.specs.Hex.{hex}
 use Rattle.language.specs.Writing.{Adds, line_of}
 use Rattle.language.proofs.Added.{adds_both}

@@ -1,4 +1,4 @@
-use Rattle.std.proofs.Common.{◌≡◌, ℕ, ◌-◌, List, ◌++◌, length, take, drop, codes, decimal, sym, ap, ◌∙◌, subst, arith}
+use Rattle.std.proofs.Common.{◌≡◌, ◌-◌, ◌++◌, length, take, drop, codes, decimal, sym, ap, ◌∙◌, subst, arith}
 use Rattle.std.proofs.lemmas.List.{take_at}
 use Rattle.store.specs.Meanings.{body_of}
 use Rattle.language.specs.Writing.{Adds, coded}
@@ -18,4 +18,4 @@ returns-in-Ok g c =
     subst (λ n. Adds c.args.answer.now c.hex_line.new.self (got body n)) e.answer
     (subst (λ v. Adds c.args.answer.now c.hex_line.new.self (codes "got " ++ (decimal (length body) ++ (codes " " ++ coded v)))) shown
     (subst (λ n. Adds c.args.answer.now c.hex_line.new.self (codes "got " ++ (decimal n ++ (codes " " ++ coded (take (len - 0) c.get.new.out))))) long
-    (adds_both _ _ _ _ _ c.text.ensures (adds_both _ _ _ _ _ c.number.ensures (adds_both _ _ _ _ _ c.text_in-Ok.ensures c.hex_line.ensures)))))
+    (adds_both _ _ _ _ _ c.text.ensures (adds_both _ _ _ _ _ c.number.ensures (adds_both _ _ _ _ _ c.text-in-Ok.ensures c.hex_line.ensures)))))
