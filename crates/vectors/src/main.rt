@@ -1,4 +1,6 @@
 // Runs the published examples of SHA-256 and LMS, and the edges of keys and signatures, through the program's language.
+#![tactic(auto)]
+
 use console::session;
 use std::fs;
 

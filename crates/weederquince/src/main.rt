@@ -1,4 +1,6 @@
 // Weederquince: reads a script on standard input, a call a line, and answers each call.
+#![tactic(auto)]
+
 use console::session;
 use std::io::Read;
 
