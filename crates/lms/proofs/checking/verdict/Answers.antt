@@ -1,4 +1,4 @@
-use Rattle.std.proofs.Common.{◌≡◌, ℕ, ◌+◌, ◌*◌, ◌≤◌, List, length, get_or, drop, sym, ap, ◌∙◌, arith, length-drop, ltb-false, ltb-true}
+use Rattle.std.proofs.Common.{◌≡◌, ℕ, ◌+◌, ◌-◌, ◌*◌, ◌≤◌, List, length, get_or, take, drop, sym, ap, ◌∙◌, arith, length-drop, ltb-false, ltb-true}
 use Rattle.std.proofs.lemmas.List.{take_rest}
 use Rattle.std.proofs.lemmas.Bool.{both_ways}
 use Rattle.octets.specs.Numbers.{number}
@@ -28,9 +28,11 @@ returns-then-leading_number-ne-ONE_TIME_TYPE c =
     let l = length-drop 4 key in
     refused sha256 _ _ _ (λ f. let n : c.leading_number.result ≡ 4 = c.leading_number.ensures ∙ ap number k ∙ f.under in let w = f.long in let a = ap length k in grind arith)
 
+-- `parts` stands here in full: with `_` in its place the crate proves, but its library's statements cannot be written
 pub leads-requires : goal.leads-requires
 leads-requires c =
-    let s = suits_parts (type_number c.in-Some.kind) c.from_be_bytes-leaf.result c.from_be_bytes-one_time.result _ (sym c.suits.ensures ∙ c.if-suits.true) in
+    let parts : List ℕ = take (length c.args.signature.now - 8) (drop 8 c.args.signature.now) in
+    let s = suits_parts (type_number c.in-Some.kind) c.from_be_bytes-leaf.result c.from_be_bytes-one_time.result parts (sym c.suits.ensures ∙ c.if-suits.true) in
     record { key = omega arith; long = s.1; below = s.0 }
 
 -- a number that four bytes in a signature write
