@@ -1,13 +1,13 @@
 // The digits that a message is signed by: the bytes of its hash, and of the hash's checksum.
 ghost use Rattle.std.specs.Prelude.{◌≡◌, ◌≤◌, ◌++◌, replicate};
 ghost use Rattle.octets.specs.Numbers.{u16 as two};
-ghost use Rattle.lmots.specs.LmOts.{checksum as checksumOf};
+ghost use Rattle.lmots.specs.LmOts.{checksum as checksum_of};
 
 use crate::rows::CHAINS;
 
 // The sum of 255 - b over the bytes b of a hash.
 pub fn checksum(hash: &[u8; 32]) -> u16
-    ensures is { result ≡ checksumOf hash.now }
+    ensures is { result ≡ checksum_of hash.now }
     ensures small { result ≤ 8160 }
 {
     let mut sum = 0;
@@ -19,14 +19,14 @@ pub fn checksum(hash: &[u8; 32]) -> u16
 
 // The worked example: 32 zero bytes have the checksum 0x1FE0.
 pub fn checksum_of_zeros() -> u16
-    ensures { (result ≡ checksumOf (replicate 32 0)) × (result ≡ 0x1FE0) }
+    ensures { (result ≡ checksum_of (replicate 32 0)) × (result ≡ 0x1FE0) }
 {
     checksum(&[0; 32])
 }
 
 // A hash and its checksum.
 pub(crate) fn digits(hash: [u8; 32]) -> [u8; CHAINS]
-    ensures { result ≡ hash ++ two (checksumOf hash) }
+    ensures { result ≡ hash ++ two (checksum_of hash) }
 {
     let sum = checksum(&hash);
     let mut all = [0; CHAINS];

@@ -3,7 +3,7 @@ ghost use Rattle.std.specs.Prelude.{◌≡◌, [], ◌∷◌, ◌++◌};
 ghost use Rattle.sha256.specs.Sha256.{bytes, sha256};
 ghost use Rattle.sha256.specs.Hashed.{Hashes};
 ghost use Rattle.octets.specs.Numbers.{u32 as four};
-ghost use Rattle.lmots.specs.LmOts.{Q as hashOf};
+ghost use Rattle.lmots.specs.LmOts.{Q as hash_of};
 
 use crate::leaf::Leaf;
 use crate::rows::ROW;
@@ -23,7 +23,7 @@ pub fn tagged(id: [u32; 4], number: u32, tag: u8) -> Hasher
 
 // Q: the hash of the randomizer and the message.
 pub(crate) fn message_hash(leaf: Leaf, randomizer: &[u8], message: &[u8]) -> [u8; 32]
-    ensures { result ≡ hashOf sha256 (bytes leaf.id) leaf.number randomizer.now message.now }
+    ensures { result ≡ hash_of sha256 (bytes leaf.id) leaf.number randomizer.now message.now }
 {
     let mut hasher = tagged(leaf.id, leaf.number, 0x81);
     hasher.update(randomizer);

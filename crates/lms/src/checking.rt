@@ -5,7 +5,7 @@ ghost use Rattle.sha256.specs.Sha256.{sha256};
 ghost use Rattle.octets.specs.Parts.{cut};
 ghost use Rattle.lms.specs.Accepted.{Accepted};
 ghost use Rattle.lms.specs.Kinds.{type_number};
-ghost use Rattle.lms.specs.Lms.{height as heightOf, well_formed, suitable, root as rootOf, holds as holding};
+ghost use Rattle.lms.specs.Lms.{height as height_of, well_formed, suitable, root as root_of, holds as holding};
 
 use crate::kind::LmsType;
 use crate::nodes::{climb, leaf_node};
@@ -26,9 +26,9 @@ const BEFORE_PATH: usize = 1124;
 // Whether what a signature has behind the one-time type leads to node 1 of what a key has behind its type.
 fn leads(kind: LmsType, rest: &[u8], leaf: u32, message: &[u8], parts: &[u8]) -> bool
     requires key { length rest.now ≡ 52 }
-    requires long { length parts.now ≡ 1124 + 32 * heightOf (type_number kind) }
-    requires below { leaf < 2 ^ heightOf (type_number kind) }
-    ensures { result ≡ bytes_eq (rootOf sha256 (heightOf (type_number kind)) (cut 4 16 rest.now) leaf message.now (take 1120 parts.now) (drop 1124 parts.now)) (drop 20 rest.now) }
+    requires long { length parts.now ≡ 1124 + 32 * height_of (type_number kind) }
+    requires below { leaf < 2 ^ height_of (type_number kind) }
+    ensures { result ≡ bytes_eq (root_of sha256 (height_of (type_number kind)) (cut 4 16 rest.now) leaf message.now (take 1120 parts.now) (drop 1124 parts.now)) (drop 20 rest.now) }
 {
     let Some((id, top)) = rest[4..REST_LEN].split_first_chunk::<16>() else {
         return false;

@@ -4,7 +4,7 @@ ghost use Rattle.sha256.specs.Sha256.{bytes, sha256};
 ghost use Rattle.octets.specs.Buffers.{over};
 ghost use Rattle.octets.specs.Parts.{cut};
 ghost use Rattle.lms.specs.Kinds.{type_number};
-ghost use Rattle.lms.specs.Lms.{height as heightOf, beside as besideOf, picked, public_key, signature as signature_of, Grown};
+ghost use Rattle.lms.specs.Lms.{height as height_of, beside as beside_of, picked, public_key, signature as signature_of, Grown};
 
 use crate::kind::LmsType;
 use crate::secret::TreeSecret;
@@ -21,7 +21,7 @@ const ONE_TIME_TYPE: [u8; 4] = [0, 0, 0, 4];
 // The public key of a tree whose nodes are in a row.
 pub(crate) fn public_key(id: [u32; 4], kind: LmsType, nodes: &[u8]) -> [u8; PUBLIC_KEY_LEN]
     requires { 64 ≤ length nodes.now }
-    ensures { (S : List ℕ) → Grown sha256 (heightOf (type_number kind)) (bytes id) S 1 nodes.now → result ≡ public_key sha256 (type_number kind) (bytes id) S }
+    ensures { (S : List ℕ) → Grown sha256 (height_of (type_number kind)) (bytes id) S 1 nodes.now → result ≡ public_key sha256 (type_number kind) (bytes id) S }
 {
     let mut key = [0; PUBLIC_KEY_LEN];
     put(&mut key, 0, &kind.number().to_be_bytes());
@@ -34,7 +34,7 @@ pub(crate) fn public_key(id: [u32; 4], kind: LmsType, nodes: &[u8]) -> [u8; PUBL
 // The other child of the node above r.
 fn beside(r: u32) -> u32
     requires { r < 2048 }
-    ensures is { result ≡ besideOf r }
+    ensures is { result ≡ beside_of r }
     ensures below { result < 2048 }
 {
     if r % 2 == 1 { r - 1 } else { r + 1 }
@@ -55,7 +55,7 @@ fn put_path(out: &mut [u8], at: usize, nodes: &[u8], height: usize, r: u32)
 
 // Writes the signature of a leaf over a message at the start of `out`.
 pub(crate) fn write(secret: &TreeSecret, leaf: u32, message: &[u8], out: &mut [u8])
-    requires { (leaf < 2 ^ heightOf (type_number secret.now.kind)) × (1132 + 32 * heightOf (type_number secret.now.kind) ≤ length out.old) }
+    requires { (leaf < 2 ^ height_of (type_number secret.now.kind)) × (1132 + 32 * height_of (type_number secret.now.kind) ≤ length out.old) }
     ensures { out.new ≡ over (signature_of sha256 (type_number secret.now.kind) (bytes secret.now.id) (bytes secret.now.seed) leaf message.now) out.old }
 {
     let kind = secret.kind;

@@ -1,7 +1,7 @@
 // What follows from a tree's type.
 ghost use Rattle.std.specs.Prelude.{◌≡◌, ◌^◌, ◌<◌, ◌≤◌, false, MatchOption};
 ghost use Rattle.lms.specs.Kinds.{type_number};
-ghost use Rattle.lms.specs.Lms.{known, height as heightOf};
+ghost use Rattle.lms.specs.Lms.{known, height as height_of};
 
 use crate::kind::LmsType;
 
@@ -24,7 +24,7 @@ impl LmsType {
     }
 
     pub fn height(self) -> usize
-        ensures is { result ≡ heightOf (type_number self) }
+        ensures is { result ≡ height_of (type_number self) }
         ensures small { result ≤ 10 }
     {
         match self {
@@ -35,7 +35,7 @@ impl LmsType {
 
     // How many leaves there are.
     pub fn leaves(self) -> u32
-        ensures is { result ≡ 2 ^ heightOf (type_number self) }
+        ensures is { result ≡ 2 ^ height_of (type_number self) }
         ensures bounds { (32 ≤ result) × (result ≤ 1024) }
     {
         match self {

@@ -4,7 +4,7 @@ ghost use Rattle.sha256.specs.Sha256.{bytes, sha256};
 ghost use Rattle.octets.specs.Parts.{cut};
 ghost use Rattle.lmots.specs.LmOts.{K as key_of};
 ghost use Rattle.lms.specs.Kinds.{type_number};
-ghost use Rattle.lms.specs.Lms.{height as heightOf, leaf, inner, Grown};
+ghost use Rattle.lms.specs.Lms.{height as height_of, leaf, inner, Grown};
 
 use crate::kind::LmsType;
 use crate::nodes::{inner_node, leaf_node};
@@ -39,7 +39,7 @@ fn node_over(id: [u32; 4], seed: [u32; 8], leaves: u32, nodes: &[u8], r: u32) ->
 // Fills a row with the nodes of a tree, from the last leaf to the root.
 pub(crate) fn grow(id: [u32; 4], seed: [u32; 8], kind: LmsType, nodes: &mut [u8])
     requires { 65536 ≤ length nodes.old }
-    ensures { Grown sha256 (heightOf (type_number kind)) (bytes id) (bytes seed) 1 nodes.new }
+    ensures { Grown sha256 (height_of (type_number kind)) (bytes id) (bytes seed) 1 nodes.new }
 {
     let leaves = kind.leaves();
     for r in (1..2 * leaves).rev() {

@@ -1,4 +1,6 @@
 // Tests of the stores: both are driven through the same calls, at the edge of each limit.
+#![tactic(auto)]
+
 use line_store::LineStore;
 use std::alloc::{AllocError, Global};
 use store::Store;
