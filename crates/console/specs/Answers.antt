@@ -5,10 +5,28 @@ use Rattle.language.specs.Writing.{Adds, line_of, yes_or_no, refusal, coded}
 use Rattle.language.specs.declared.answer.Answer.{Answer}
 use Rattle.language.specs.declared.call.StoreCall.{StoreCall}
 use Rattle.language.specs.declared.call.StoreCall.TheVariants.{File, Get, Has, Fits, Entries}
-use Rattle.store.specs.Answers.{get_answer, file_answer}
+use Rattle.store.specs.declared.refusal.GetRefusal.{GetRefusal}
+use Rattle.store.specs.declared.refusal.FileRefusal.{FileRefusal}
+use Rattle.store.specs.Answers.{get_number, file_number, get_refusal, file_refusal}
 use Rattle.store.specs.Meanings.{Meaning, body_of, with}
 use Rattle.sha256.specs.Sha256.{sha256}
 use Rattle.hash_based.specs.Joined.{is_formed, is_held}
+
+-- the number of an answer to `get`: 0 where it is granted, else the refusal's
+abbrev pub get_code : Option GetRefusal → ℕ
+get_code None = 0
+get_code (Some e) = get_number e
+
+abbrev pub get_answer : ℕ → List ℕ → Bool → ℕ
+get_answer space name there = get_code (get_refusal space name there)
+
+-- the number of an answer to `file`
+abbrev pub file_code : Option FileRefusal → ℕ
+file_code None = 0
+file_code (Some e) = file_number e
+
+abbrev pub file_answer : List ℕ → List ℕ → Bool → Bool → ℕ
+file_answer name body there fits = file_code (file_refusal name body there fits)
 
 -- a text where the number is 0, else the refusal of that number
 abbrev pub granted : List ℕ → ℕ → List ℕ

@@ -39,7 +39,7 @@ fn open_text(mut buffer: Vec<u8>, used: usize, answer: &mut Answer) -> Option<Op
             Some(Opening::Line { buffer, used })
         }
         Err(refusal) => {
-            answer.refused(refusal.number());
+            answer.refused(u8::from(refusal));
             None
         }
     }

@@ -1,9 +1,8 @@
 // The calls that go to a store.
 ghost use Rattle.std.specs.Prelude.{◌≡◌, length, is_some, if◌then◌else◌, nat_eq};
 ghost use Rattle.language.specs.Writing.{Adds};
-ghost use Rattle.store.specs.Answers.{get_answer};
 ghost use Rattle.store.specs.Meanings.{body_of, with};
-ghost use Rattle.console.specs.Answers.{filed, got, number_of, Replies, afterwards};
+ghost use Rattle.console.specs.Answers.{get_answer, filed, got, number_of, Replies, afterwards};
 
 use language::answer::Answer;
 use language::call::StoreCall;
@@ -37,7 +36,7 @@ fn file<S: Store>(store: &mut S, name: &[u8], body: &[u8], answer: &mut Answer)
 {
     match store.file(name, body) {
         Ok(()) => answer.line("filed"),
-        Err(refusal) => answer.refused(refusal.number()),
+        Err(refusal) => answer.refused(u8::from(refusal)),
     }
 }
 
@@ -61,7 +60,7 @@ fn show_body<S: Store>(store: &S, name: &[u8], buffer: &mut [u8], answer: &mut A
             answer.text(" ");
             answer.hex_line(&buffer[0..len]);
         }
-        Err(refusal) => answer.refused(refusal.number()),
+        Err(refusal) => answer.refused(u8::from(refusal)),
     }
 }
 

@@ -2,10 +2,11 @@
 use Rattle.std.proofs.Common.{◌≡◌, ℕ, suc, ◌+◌, ◌-◌, ◌<◌, ◌≤◌, Bool, true, false, cond, ◌&&◌, eqb, leb, List, [], ◌∷◌, ◌++◌, length, take, drop, is_some, sym, refl, ap, ◌∙◌, subst, ⊎_elim, arith}
 use Rattle.std.proofs.lemmas.List.{length-drop, length-append, drop-drop, take_at, take_all, take-append-drop, append_assoc}
 use Rattle.std.proofs.lemmas.Bool.{cases_Bool, and_parts, and_from, and_left, and_right, le-leb, leb-true, leb-false, lt-leb, eqb-true, both_ways}
+use Rattle.std.specs.List.{list_all}
 use Rattle.octets.specs.Buffers.{are_bytes}
 use Rattle.octets.specs.Hex.{hex, is_hex, unhex}
 use Rattle.octets.proofs.Hexed.{spells, is_hex-hex, unhex-hex, hex_long}
-use Rattle.store.specs.Meanings.{is_name, is_body, all_visible}
+use Rattle.store.specs.Meanings.{is_visible, is_name, is_body}
 use Rattle.store.specs.Entries.{Entry, is_entry, look_up, sound}
 use Rattle.store.proofs.Looking.{name_bytes, sound_push, sound-within}
 use Rattle.octets.specs.Search.{up_to}
@@ -18,7 +19,7 @@ use Rattle.line_store.proofs.Telling.{goes_on, line_append, text_append}
 pub name_long : (s : List ℕ) → is_hex s ≡ true → 192 < length s → is_name (unhex s) ≡ false
 name_long s e h =
     let l = hex_long s e in
-    and_left _ (all_visible (unhex s)) (and_right (leb 1 (length (unhex s))) _ (lt-leb _ _ (omega arith)))
+    and_left _ (list_all is_visible (unhex s)) (and_right (leb 1 (length (unhex s))) _ (lt-leb _ _ (omega arith)))
 
 pub body_short : (s : List ℕ) → is_hex s ≡ true → leb (length s) 65536 ≡ is_body (unhex s)
 body_short s e =

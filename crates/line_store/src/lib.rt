@@ -2,8 +2,9 @@
 #![tactic(auto)]
 
 ghost use Rattle.std.specs.Prelude.{◌≡◌, ℕ, ◌≤◌, true, false, length, is_some, is_ok, if◌then◌else◌};
+ghost use Rattle.std.specs.Result.{result_err};
 ghost use Rattle.store.specs.Meanings.{Lawful, nothing, with};
-ghost use Rattle.store.specs.Answers.{file_code, file_answer};
+ghost use Rattle.store.specs.Answers.{file_refusal};
 ghost use Rattle.line_store.specs.Texts.{Tells, entries_of, is_text};
 ghost use Rattle.line_store.specs.Held.{text_in, meaning_of, room_in, Appended};
 ghost use Rattle.line_store.specs.Opening.{open_number, Opens};
@@ -18,11 +19,11 @@ use store::listing::Listing;
 use store::refusal::{FileRefusal, GetRefusal};
 use store::{Store, limits};
 
-impl OpenRefusal {
-    pub fn number(self) -> u8
-        ensures { result ≡ open_number self }
-    {
-        self as u8
+impl From<OpenRefusal> for u8 {
+    ghost from_gives = { λ refusal number. number ≡ open_number refusal };
+
+    fn from(refusal: OpenRefusal) -> u8 {
+        refusal as u8
     }
 }
 
@@ -80,25 +81,17 @@ impl<'a> Store for LineStore<'a> {
 
     fn get(&self, name: &[u8], out: &mut [u8]) -> Result<usize, GetRefusal> {
         limits::check_get(name, out.len())?;
-        let Some(len) = self.lines.read_body(name, out) else {
-            return Err(GetRefusal::Absent);
-        };
+        let len = self.lines.read_body(name, out).ok_or(GetRefusal::Absent)?;
         Ok(len)
     }
 
     fn file(&mut self, name: &[u8], body: &[u8]) -> Result<(), FileRefusal>
-        ensures answer { file_code result ≡ file_answer name.now body.now (is_some (meaning_of self.old.lines name.now)) (room_in self.old.lines (length name.now) (length body.now)) }
+        ensures answer { result_err result ≡ file_refusal name.now body.now (is_some (meaning_of self.old.lines name.now)) (room_in self.old.lines (length name.now) (length body.now)) }
         ensures meaning { meaning_of self.new.lines ≡ (if is_ok result then with (meaning_of self.old.lines) name.now body.now else meaning_of self.old.lines) }
         ensures refused { is_ok result ≡ false → self.new ≡ self.old }
         ensures appended { is_ok result ≡ true → Appended self.old.lines self.new.lines (name.now, body.now) }
     {
-        limits::check_file(name, body)?;
-        if self.has(name) {
-            return Err(FileRefusal::Taken);
-        }
-        if !self.fits(name.len(), body.len()) {
-            return Err(FileRefusal::Full);
-        }
+        self.admit(name, body)?;
         self.lines.add(name, body);
         Ok(())
     }

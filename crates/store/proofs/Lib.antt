@@ -1,2 +1,1 @@
-mod Names
 pub mod Looking

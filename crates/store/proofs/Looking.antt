@@ -4,23 +4,24 @@ use mathlib.Core.Path.{fun_ext}
 use Rattle.std.proofs.lemmas.Bool.{and_parts, and_from, lt-ltb, leb-true, not-true, not_from_false, both_ways, cases_Bool}
 use Rattle.std.proofs.lemmas.Slice.Eq.{bytes_eq-Decides}
 use Rattle.std.proofs.lemmas.Bool.Decides.{same_from_decides}
+use Rattle.std.specs.List.{list_all}
 use Rattle.std.specs.Str.{bytes_eq}
 use Rattle.octets.specs.Buffers.{are_bytes}
-use Rattle.store.specs.Meanings.{Lawful, allowed, is_visible, all_visible, is_name, is_body, with, body_of}
+use Rattle.store.specs.Meanings.{Lawful, allowed, is_visible, is_name, is_body, with, body_of}
 use Rattle.store.specs.Entries.{Entry, is_entry, look_up, sound, name_at}
 
-visible_bytes : (xs : List ℕ) → all_visible xs ≡ true → are_bytes xs ≡ true
+visible_bytes : (xs : List ℕ) → list_all is_visible xs ≡ true → are_bytes xs ≡ true
 visible_bytes [] v = refl
 visible_bytes (x ∷ xs) v =
-    let a = and_parts (is_visible x) (all_visible xs) v in
+    let a = and_parts (is_visible x) (list_all is_visible xs) v in
     let b = leb-true _ _ (and_parts (leb 0x21 x) (leb x 0x7e) a.0).1 in
     and_from _ _ (lt-ltb _ _ (omega arith)) (visible_bytes xs a.1)
 
 pub name_bytes : (n : List ℕ) → is_name n ≡ true → are_bytes n ≡ true
-name_bytes n h = visible_bytes n (and_parts (leb 1 (length n) && leb (length n) 96) (all_visible n) h).1
+name_bytes n h = visible_bytes n (and_parts (leb 1 (length n) && leb (length n) 96) (list_all is_visible n) h).1
 
 pub name_short : (n : List ℕ) → is_name n ≡ true → length n ≤ 96
-name_short n h = leb-true _ _ (and_parts (leb 1 (length n)) (leb (length n) 96) (and_parts (leb 1 (length n) && leb (length n) 96) (all_visible n) h).0).1
+name_short n h = leb-true _ _ (and_parts (leb 1 (length n)) (leb (length n) 96) (and_parts (leb 1 (length n) && leb (length n) 96) (list_all is_visible n) h).0).1
 
 same_sym : (xs ys : List ℕ) → bytes_eq xs ys ≡ bytes_eq ys xs
 same_sym xs ys = same_from_decides _ _ (bytes_eq-Decides xs ys) ((λ e. sym ((bytes_eq-Decides ys xs).0 e)), (λ e. (bytes_eq-Decides ys xs).1 (sym e)))

@@ -1,5 +1,5 @@
--- The numbers of a store's answers, and which answer is given when.
-use Rattle.std.specs.Prelude.{ℕ, Bool, cond, ◌&&◌, List, Ok, Err, Result, nat_le}
+-- Why a store refuses a call, and the number of each reason.
+use Rattle.std.specs.Prelude.{ℕ, Bool, cond, ◌&&◌, List, Some, None, Option, nat_le}
 use Rattle.store.specs.declared.refusal.GetRefusal.{GetRefusal}
 use Rattle.store.specs.declared.refusal.GetRefusal.TheVariants.{ShortBuffer, NotAName, Absent}
 use Rattle.store.specs.declared.refusal.FileRefusal.{FileRefusal}
@@ -16,19 +16,10 @@ file_number NotAnEntry = 9
 file_number Taken = 21
 file_number Full = 22
 
--- 0 where `get` grants, else the refusal's number
-abbrev pub get_code : {X : Type 0} → Result X GetRefusal → ℕ
-get_code (Ok x) = 0
-get_code (Err e) = get_number e
+-- why `get` into a buffer of `space` bytes refuses a name that is or is not there, if it does
+abbrev pub get_refusal : ℕ → List ℕ → Bool → Option GetRefusal
+get_refusal space name there = cond (nat_le 32768 space) (cond (is_name name) (cond there None (Some Absent)) (Some NotAName)) (Some ShortBuffer)
 
-abbrev pub file_code : {X : Type 0} → Result X FileRefusal → ℕ
-file_code (Ok x) = 0
-file_code (Err e) = file_number e
-
--- `get` into a buffer of `space` bytes, for a name that is or is not there
-abbrev pub get_answer : ℕ → List ℕ → Bool → ℕ
-get_answer space name there = cond (nat_le 32768 space) (cond (is_name name) (cond there 0 23) 9) 1
-
--- `file`, where the name is or is not there, and the entry does or does not fit
-abbrev pub file_answer : List ℕ → List ℕ → Bool → Bool → ℕ
-file_answer name body there fits = cond (is_name name && is_body body) (cond there 21 (cond fits 0 22)) 9
+-- why `file` refuses an entry, where the name is or is not there and the entry does or does not fit, if it does
+abbrev pub file_refusal : List ℕ → List ℕ → Bool → Bool → Option FileRefusal
+file_refusal name body there fits = cond (is_name name && is_body body) (cond there (Some Taken) (cond fits None (Some Full))) (Some NotAnEntry)

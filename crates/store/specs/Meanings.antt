@@ -1,5 +1,6 @@
 -- What a store means: a set of entries, no name twice, as the look-up from a name to its body.
-use Rattle.std.specs.Prelude.{◌≡◌, ℕ, ◌≤◌, Bool, true, cond, ◌&&◌, List, [], ◌∷◌, length, is_some, IfSome, Some, None, Option, nat_le}
+use Rattle.std.specs.Prelude.{◌≡◌, ℕ, ◌≤◌, Bool, true, cond, ◌&&◌, List, [], length, is_some, IfSome, Some, None, Option, nat_le}
+use Rattle.std.specs.List.{list_all}
 use Rattle.std.specs.Str.{bytes_eq}
 use Rattle.octets.specs.Buffers.{over}
 
@@ -14,13 +15,9 @@ nothing n = None
 abbrev pub is_visible : ℕ → Bool
 is_visible x = nat_le 0x21 x && nat_le x 0x7e
 
-abbrev pub all_visible : List ℕ → Bool
-all_visible [] = true
-all_visible (x ∷ xs) = is_visible x && all_visible xs
-
 -- a name has 1 to 96 bytes, all visible
 abbrev pub is_name : List ℕ → Bool
-is_name n = (nat_le 1 (length n) && nat_le (length n) 96) && all_visible n
+is_name n = (nat_le 1 (length n) && nat_le (length n) 96) && list_all is_visible n
 
 -- a body has 0 to 32,768 bytes
 abbrev pub is_body : List ℕ → Bool

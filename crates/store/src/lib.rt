@@ -3,8 +3,9 @@
 
 ghost use Rattle.std.specs.Prelude.{◌≡◌, ℕ, ◌≤◌, Bool, false, length, is_some, is_ok, IfOk, if◌then◌else◌};
 ghost use Rattle.octets.specs.Buffers.{over};
+ghost use Rattle.std.specs.Result.{result_err};
 ghost use Rattle.store.specs.Meanings.{Meaning, with, body_of, Lawful};
-ghost use Rattle.store.specs.Answers.{get_code, get_answer, file_code, file_answer};
+ghost use Rattle.store.specs.Answers.{get_refusal, file_refusal};
 
 pub mod limits;
 pub mod listing;
@@ -31,13 +32,27 @@ pub trait Store {
 
     // Writes the name's body at the start of `out`, leaves the rest, and gives the body's length.
     fn get(&self, name: &[u8], out: &mut [u8]) -> Result<usize, GetRefusal>
-        ensures answer { get_code result ≡ get_answer (length out.old) name.now (is_some (meaning self.now name.now)) }
+        ensures answer { result_err result ≡ get_refusal (length out.old) name.now (is_some (meaning self.now name.now)) }
         ensures long { IfOk result (λ k. (k ≡ length (body_of (meaning self.now name.now))) × (k ≤ length out.old)) }
         ensures after { out.new ≡ (if is_ok result then over (body_of (meaning self.now name.now)) out.old else out.old) };
 
+    // Why `file` would refuse the entry, if it would.
+    fn admit(&self, name: &[u8], body: &[u8]) -> Result<(), FileRefusal>
+        ensures { result_err result ≡ file_refusal name.now body.now (is_some (meaning self.now name.now)) (room self.now (length name.now) (length body.now)) }
+    {
+        limits::check_file(name, body)?;
+        if self.has(name) {
+            return Err(FileRefusal::Taken);
+        }
+        if !self.fits(name.len(), body.len()) {
+            return Err(FileRefusal::Full);
+        }
+        Ok(())
+    }
+
     // Adds an entry. A refusal changes nothing.
     fn file(&mut self, name: &[u8], body: &[u8]) -> Result<(), FileRefusal>
-        ensures answer { file_code result ≡ file_answer name.now body.now (is_some (meaning self.old name.now)) (room self.old (length name.now) (length body.now)) }
+        ensures answer { result_err result ≡ file_refusal name.now body.now (is_some (meaning self.old name.now)) (room self.old (length name.now) (length body.now)) }
         ensures meaning { meaning self.new ≡ (if is_ok result then with (meaning self.old) name.now body.now else meaning self.old) }
         ensures refused { is_ok result ≡ false → self.new ≡ self.old };
 }

@@ -20,18 +20,18 @@ pub enum FileRefusal {
     Full = 22,
 }
 
-impl GetRefusal {
-    pub fn number(self) -> u8
-        ensures { result ≡ get_number self }
-    {
-        self as u8
+impl From<GetRefusal> for u8 {
+    ghost from_gives = { λ refusal number. number ≡ get_number refusal };
+
+    fn from(refusal: GetRefusal) -> u8 {
+        refusal as u8
     }
 }
 
-impl FileRefusal {
-    pub fn number(self) -> u8
-        ensures { result ≡ file_number self }
-    {
-        self as u8
+impl From<FileRefusal> for u8 {
+    ghost from_gives = { λ refusal number. number ≡ file_number refusal };
+
+    fn from(refusal: FileRefusal) -> u8 {
+        refusal as u8
     }
 }

@@ -10,7 +10,7 @@ use store::limits::BODY_MAX;
 fn file_code<S: Store>(store: &mut S, name: &[u8], body: &[u8]) -> u8 {
     match store.file(name, body) {
         Ok(()) => 0,
-        Err(refusal) => refusal.number(),
+        Err(refusal) => u8::from(refusal),
     }
 }
 
@@ -18,7 +18,7 @@ fn file_code<S: Store>(store: &mut S, name: &[u8], body: &[u8]) -> u8 {
 fn get_code<S: Store>(store: &S, name: &[u8], out: &mut [u8]) -> u8 {
     match store.get(name, out) {
         Ok(_) => 0,
-        Err(refusal) => refusal.number(),
+        Err(refusal) => u8::from(refusal),
     }
 }
 
@@ -26,7 +26,7 @@ fn get_code<S: Store>(store: &S, name: &[u8], out: &mut [u8]) -> u8 {
 fn open_code(store: &mut LineStore, used: usize) -> u8 {
     match store.open(used) {
         Ok(()) => 0,
-        Err(refusal) => refusal.number(),
+        Err(refusal) => u8::from(refusal),
     }
 }
 

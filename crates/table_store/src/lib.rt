@@ -2,9 +2,10 @@
 #![tactic(auto)]
 
 ghost use Rattle.std.specs.Prelude.{◌≡◌, ℕ, ◌≤◌, true, false, length, is_some, is_ok, if◌then◌else◌};
+ghost use Rattle.std.specs.Result.{result_err};
 ghost use Rattle.store.specs.Meanings.{Lawful, nothing, with};
 ghost use Rattle.store.specs.Entries.{sound as sound_of};
-ghost use Rattle.store.specs.Answers.{file_code, file_answer};
+ghost use Rattle.store.specs.Answers.{file_refusal};
 ghost use Rattle.table_store.specs.Blocks.{size};
 ghost use Rattle.table_store.specs.Held.{rows_of, entries_of, meaning_of, room_in, Added};
 
@@ -64,25 +65,17 @@ impl<'a> Store for TableStore<'a> {
 
     fn get(&self, name: &[u8], out: &mut [u8]) -> Result<usize, GetRefusal> {
         limits::check_get(name, out.len())?;
-        let Some(len) = self.table.read_body(name, out) else {
-            return Err(GetRefusal::Absent);
-        };
+        let len = self.table.read_body(name, out).ok_or(GetRefusal::Absent)?;
         Ok(len)
     }
 
     fn file(&mut self, name: &[u8], body: &[u8]) -> Result<(), FileRefusal>
-        ensures answer { file_code result ≡ file_answer name.now body.now (is_some (meaning_of self.old.table name.now)) (room_in self.old.table (length name.now) (length body.now)) }
+        ensures answer { result_err result ≡ file_refusal name.now body.now (is_some (meaning_of self.old.table name.now)) (room_in self.old.table (length name.now) (length body.now)) }
         ensures meaning { meaning_of self.new.table ≡ (if is_ok result then with (meaning_of self.old.table) name.now body.now else meaning_of self.old.table) }
         ensures refused { is_ok result ≡ false → self.new ≡ self.old }
         ensures added { is_ok result ≡ true → Added self.old.table self.new.table (name.now, body.now) }
     {
-        limits::check_file(name, body)?;
-        if self.has(name) {
-            return Err(FileRefusal::Taken);
-        }
-        if !self.fits(name.len(), body.len()) {
-            return Err(FileRefusal::Full);
-        }
+        self.admit(name, body)?;
         self.table.add(name, body);
         Ok(())
     }
