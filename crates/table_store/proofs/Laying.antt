@@ -1,12 +1,12 @@
 -- Rows over a block, one by one.
-use Rattle.std.proofs.Common.{◌≡◌, ℕ, zero, suc, ◌+◌, ◌-◌, ◌<◌, ◌≤◌, cond, List, [], ◌∷◌, ◌++◌, length, get_or, take, drop, Some, None, sym, refl, ap, ◌∙◌, ⊎_elim, arith}
+use Rattle.std.proofs.Common.{◌≡◌, ℕ, zero, suc, ◌+◌, ◌<◌, ◌≤◌, cond, List, [], ◌∷◌, ◌++◌, length, get_or, take, drop, Some, None, sym, refl, ap, ◌∙◌, ⊎_elim, arith}
 use Rattle.std.proofs.lemmas.Bool.{cases_Bool}
 use Rattle.std.proofs.lemmas.List.{append_assoc, length-drop, length-take-le, get_or-take, take-append-le, drop-append-le, take-append-drop, take_more, take_at, drop_at, drop-drop, at_drop_more, at_drop_all}
 use Rattle.std.proofs.lemmas.Slice.Eq.{bytes_eq-Decides}
 use Rattle.std.specs.Str.{bytes_eq}
 use Rattle.octets.specs.Buffers.{over}
 use Rattle.store.specs.Entries.{look_up, name_at}
-use Rattle.table_store.specs.Blocks.{entries_in, size, part, Holds}
+use Rattle.table_store.specs.Blocks.{entries_in, size}
 use Rattle.table_store.specs.declared.table.Row.{Row}
 
 -- rows tell of the front of the block that they take up
@@ -57,52 +57,53 @@ entries_push rs r block name body at e h en eb =
 abbrev pub blank : Row
 blank = record { name = 0; body = 0 }
 
--- what is left of the rows from `i` on, in the block from `at` on, looks up as the whole
-pub record Left (rows : List Row) (block name : List ℕ) (at i : ℕ) : Type 0 where
-  pub within : at + size (drop i rows) ≤ length block
-  pub looks : look_up (entries_in (drop i rows) (drop at block)) name ≡ look_up (entries_in rows block) name
+-- what is left of the rows from `i` on, over what is left of the block, looks up as the whole
+pub record Left (rows : List Row) (block name rest : List ℕ) (i : ℕ) : Type 0 where
+  pub within : size (drop i rows) ≤ length rest
+  pub looks : look_up (entries_in (drop i rows) rest) name ≡ look_up (entries_in rows block) name
 
-pub left_none : (rows : List Row) (block name : List ℕ) → size rows ≤ length block → Left rows block name 0 0
-left_none rows block name h = record { within = omega arith; looks = refl }
-
-module _ (rows : List Row) (block name : List ℕ) (at i start end : ℕ) (left : Left rows block name at i) (h : i < length rows)
-    (es : start ≡ at + (get_or rows i blank).name) (ee : end ≡ start + (get_or rows i blank).body) where
-  row : Row
-  row = get_or rows i blank
-
-  pub row_within : end + size (drop (i + 1) rows) ≤ length block
+module _ (rows : List Row) (block name rest : List ℕ) (i : ℕ) (left : Left rows block name rest i) (h : i < length rows) where
+  pub row_within : (get_or rows i blank).name + (get_or rows i blank).body + size (drop (i + 1) rows) ≤ length rest
   row_within = omega (arith, left.within, at_drop_more size rows i blank h)
 
-  here : look_up (entries_in rows block) name ≡ cond (bytes_eq (take (start - at) (drop at block)) name) (Some (part block (record { start = start; end = end }))) (look_up (entries_in (drop (i + 1) rows) (drop end block)) name)
-  here =
-      let r = get_or rows i blank in
-      let n : r.name ≡ start - at = omega arith in
-      let b : take r.body (drop r.name (drop at block)) ≡ take (end - start) (drop start block) =
-      ap (take r.body) (drop-drop r.name at block ∙ ap (λ z. drop z block) (sym es)) ∙ ap (λ z. take z (drop start block)) (omega arith) in
-      let t : drop (r.name + r.body) (drop at block) ≡ drop end block = drop-drop (r.name + r.body) at block ∙ ap (λ z. drop z block) (omega arith) in
-      sym left.looks ∙ at_drop_more (λ z. look_up (entries_in z (drop at block)) name) rows i blank h
-      ∙ ap (λ z. cond (bytes_eq (take z (drop at block)) name) (Some (take r.body (drop r.name (drop at block)))) (look_up (entries_in (drop (i + 1) rows) (drop (r.name + r.body) (drop at block))) name)) n
-      ∙ ap (λ z. cond (bytes_eq (take (start - at) (drop at block)) name) (Some z) (look_up (entries_in (drop (i + 1) rows) (drop (r.name + r.body) (drop at block))) name)) b
-      ∙ ap (λ z. cond (bytes_eq (take (start - at) (drop at block)) name) (Some (take (end - start) (drop start block))) (look_up (entries_in (drop (i + 1) rows) z) name)) t
+  here : look_up (entries_in rows block) name
+      ≡ cond (bytes_eq (take (get_or rows i blank).name rest) name) (Some (take (get_or rows i blank).body (drop (get_or rows i blank).name rest)))
+      (look_up (entries_in (drop (i + 1) rows) (drop ((get_or rows i blank).name + (get_or rows i blank).body) rest)) name)
+  here = sym left.looks ∙ at_drop_more (λ z. look_up (entries_in z rest) name) rows i blank h
 
-  pub row_found : take (start - at) (drop at block) ≡ name → Holds block (look_up (entries_in rows block) name) (record { start = start; end = end })
-  row_found t = record {
-    body = here ∙ ap (λ z. cond z (Some (part block (record { start = start; end = end }))) (look_up (entries_in (drop (i + 1) rows) (drop end block)) name)) ((bytes_eq-Decides _ _).1 t);
-    order = omega arith;
-    within = omega (arith, row_within);
-  }
+  module _ (front body after : List ℕ) (ef : front ≡ take (get_or rows i blank).name rest) (eb : body ≡ take (get_or rows i blank).body (drop (get_or rows i blank).name rest))
+      (ea : after ≡ drop (get_or rows i blank).body (drop (get_or rows i blank).name rest)) where
+    passes : look_up (entries_in rows block) name ≡ cond (bytes_eq front name) (Some body) (look_up (entries_in (drop (i + 1) rows) after) name)
+    passes =
+        let r = get_or rows i blank in
+        let t : drop (r.name + r.body) rest ≡ after = ap (λ z. drop z rest) (omega arith) ∙ sym (ea ∙ drop-drop r.body r.name rest) in
+        here ∙ ap (λ z. cond (bytes_eq z name) (Some (take r.body (drop r.name rest))) (look_up (entries_in (drop (i + 1) rows) (drop (r.name + r.body) rest)) name)) (sym ef)
+        ∙ ap (λ z. cond (bytes_eq front name) (Some z) (look_up (entries_in (drop (i + 1) rows) (drop (r.name + r.body) rest)) name)) (sym eb)
+        ∙ ap (λ z. cond (bytes_eq front name) (Some body) (look_up (entries_in (drop (i + 1) rows) z) name)) t
 
-  pub row_passed : (take (start - at) (drop at block) ≡ name → ⊥) → Left rows block name end (i + 1)
-  row_passed f = record {
-    within = row_within;
-    looks = ⊎_elim
-        (λ t. absurd (f ((bytes_eq-Decides _ _).0 t)))
-        (λ t. sym (here ∙ ap (λ z. cond z (Some (part block (record { start = start; end = end }))) (look_up (entries_in (drop (i + 1) rows) (drop end block)) name)) t))
-        (cases_Bool (bytes_eq (take (start - at) (drop at block)) name));
-  }
+    pub row_found : front ≡ name → Some body ≡ look_up (entries_in rows block) name
+    row_found e = sym (passes ∙ ap (λ z. cond z (Some body) (look_up (entries_in (drop (i + 1) rows) after) name)) ((bytes_eq-Decides _ _).1 e))
 
-pub left_all : (rows : List Row) (block name : List ℕ) (at i : ℕ) → Left rows block name at i → length rows ≤ i → look_up (entries_in rows block) name ≡ None
-left_all rows block name at i left h = sym left.looks ∙ at_drop_all (λ z. look_up (entries_in z (drop at block)) name) rows i h
+    pub row_passed : (front ≡ name → ⊥) → Left rows block name after (i + 1)
+    row_passed f = record {
+      within = omega (arith, row_within, ap length ea, length-drop (get_or rows i blank).body (drop (get_or rows i blank).name rest), length-drop (get_or rows i blank).name rest);
+      looks = ⊎_elim
+          (λ t. absurd (f ((bytes_eq-Decides _ _).0 t)))
+          (λ t. sym (passes ∙ ap (λ z. cond z (Some body) (look_up (entries_in (drop (i + 1) rows) after) name)) t))
+          (cases_Bool (bytes_eq front name));
+    }
+
+pub left_all : (rows : List Row) (block name rest : List ℕ) (i : ℕ) → Left rows block name rest i → length rows ≤ i → None ≡ look_up (entries_in rows block) name
+left_all rows block name rest i left h = sym (at_drop_all (λ z. look_up (entries_in z rest) name) rows i h) ∙ left.looks
+
+-- what is written past the rows in use is told by none of them
+pub entries_kept : (rs : List Row) (block part : List ℕ) (at : ℕ) → size rs ≤ at → at ≤ length block → entries_in rs (over (take at block ++ part) block) ≡ entries_in rs block
+entries_kept rs block part at e h =
+    let front = take at block in
+    let done = front ++ part in
+    let lf : length front ≡ at = length-take-le at block h in
+    ap (entries_in rs) (append_assoc front part (drop (length done) block)) ∙ entries_front rs front (part ++ drop (length done) block) (omega arith)
+    ∙ sym (ap (entries_in rs) (sym (take-append-drop at block)) ∙ entries_front rs front (drop at block) (omega arith))
 
 pub size-take : (n : ℕ) (rows : List Row) → size (take n rows) ≤ size rows
 size-take n rows = omega (arith, ap size (take-append-drop n rows), size-append (take n rows) (drop n rows))
@@ -121,23 +122,39 @@ pub length-entries : (rows : List Row) (block : List ℕ) → length (entries_in
 length-entries [] block = refl
 length-entries (r ∷ rs) block = ap suc (length-entries rs (drop (r.name + r.body) block))
 
--- where the name of an entry lies in the block, by the rows in use
-module _ (rows : List Row) (block : List ℕ) (count filled i start : ℕ) (counted : count ≤ length rows) (e : filled ≡ size (take count rows)) (within : filled ≤ length block) (h : i < count)
-    (es : start ≡ size (take i (take (count - 0) rows))) where
-  front : start ≡ size (take i (take count rows))
-  front = es ∙ ap (λ z. size (take i (take z rows))) (omega arith)
+-- the entry at `k`, whose row is `r`, over what is left of the block behind those before it
+module _ (rows : List Row) (block rest : List ℕ) (k : ℕ) (r : Row) (fits : size rows ≤ length block) (inv : rest ≡ drop (size (take k rows)) block) (h : k < length rows) (er : r ≡ get_or rows k blank) where
+  next_size : size (take (k + 1) rows) ≡ size (take k rows) + (r.name + r.body)
+  next_size = size_more rows k h ∙ ap (λ z. size (take k rows) + (z.name + z.body)) (sym er)
 
-  short : i < length (take count rows)
-  short = omega (arith, length-take-le count rows counted)
+  pub entry_within : r.name + r.body ≤ length rest
+  entry_within = omega (arith, ap length inv, length-drop (size (take k rows)) block, next_size, size-take (k + 1) rows, fits)
 
-  same_row : get_or (take count rows) i blank ≡ get_or rows i blank
-  same_row = get_or-take count rows i blank h
+  pub entry_fits : r.name + r.body ≤ length block
+  entry_fits = omega (arith, next_size, size-take (k + 1) rows, fits)
 
-  pub name_within : start + (get_or rows i blank).name ≤ length block
-  name_within =
-      omega (arith, front, size_more (take count rows) i short, size-take (i + 1) (take count rows), ap (λ z. z.name) same_row)
+  pub entry_past : drop (r.name + r.body) rest ≡ drop (size (take (k + 1) rows)) block
+  entry_past = ap (drop (r.name + r.body)) inv ∙ drop-drop (r.name + r.body) (size (take k rows)) block ∙ ap (λ z. drop z block) (omega (arith, next_size))
 
-  pub name_part : part block (record { start = start; end = start + (get_or rows i blank).name }) ≡ name_at (entries_in (take count rows) block) i
-  name_part =
-      ap (λ z. take z (drop start block)) (omega arith) ∙ ap (λ z. take z.name (drop start block)) (sym same_row) ∙ ap (λ z. take (get_or (take count rows) i blank).name (drop z block)) front
-      ∙ name_in (take count rows) block i short
+  pub entry_name : take r.name rest ≡ name_at (entries_in rows block) k
+  entry_name = ap (take r.name) inv ∙ ap (λ z. take z.name (drop (size (take k rows)) block)) er ∙ name_in rows block k h
+
+-- the same of an entry before the one at `index`
+module _ (rows : List Row) (block rest : List ℕ) (index k : ℕ) (fits : size rows ≤ length block) (inv : rest ≡ drop (size (take k rows)) block) (there : index < length rows) (h : k < length (take index rows)) where
+  earlier : k < index
+  earlier = omega (arith, length-take-le index rows (omega arith))
+
+  same_row : get_or (take index rows) k blank ≡ get_or rows k blank
+  same_row = get_or-take index rows k blank earlier
+
+  short : k < length rows
+  short = omega (arith, earlier)
+
+  pub before_within : (get_or (take index rows) k blank).name + (get_or (take index rows) k blank).body ≤ length rest
+  before_within = entry_within rows block rest k (get_or (take index rows) k blank) fits inv short same_row
+
+  pub before_fits : (get_or (take index rows) k blank).name + (get_or (take index rows) k blank).body ≤ length block
+  before_fits = entry_fits rows block rest k (get_or (take index rows) k blank) fits inv short same_row
+
+  pub before_past : drop ((get_or (take index rows) k blank).name + (get_or (take index rows) k blank).body) rest ≡ drop (size (take (k + 1) rows)) block
+  before_past = entry_past rows block rest k (get_or (take index rows) k blank) fits inv short same_row

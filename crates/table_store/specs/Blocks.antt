@@ -1,6 +1,5 @@
 -- The entries that rows tell of in a block: names and bodies lie one behind the other, and each row has their lengths.
-use Rattle.std.specs.Prelude.{◌≡◌, ℕ, ◌+◌, ◌-◌, ◌≤◌, List, [], ◌∷◌, length, take, drop, Some, Option}
-use Rattle.octets.specs.declared.span.Span.{Span}
+use Rattle.std.specs.Prelude.{ℕ, ◌+◌, List, [], ◌∷◌, take, drop}
 use Rattle.store.specs.Entries.{Entry}
 use Rattle.table_store.specs.declared.table.Row.{Row}
 
@@ -12,13 +11,3 @@ entries_in (r ∷ rs) block = (take r.name block, take r.body (drop r.name block
 abbrev pub size : List Row → ℕ
 size [] = 0
 size (r ∷ rs) = (r.name + r.body) + size rs
-
--- the part of the block at a span
-abbrev pub part : List ℕ → Span → List ℕ
-part block w = take (w.end - w.start) (drop w.start block)
-
--- the body that was found lies at the span
-pub record Holds (block : List ℕ) (found : Option (List ℕ)) (w : Span) : Type 0 where
-  pub body : found ≡ Some (part block w)
-  pub order : w.start ≤ w.end
-  pub within : w.end ≤ length block

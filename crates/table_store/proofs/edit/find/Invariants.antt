@@ -1,5 +1,0 @@
-use Rattle.table_store.proofs.Laying.{Left}
-use Rattle.table_store.proofs.edit.find.Given as goal
-
-abbrev pub invariant-loop-row : goal.invariant-loop-row
-invariant-loop-row l = Left l.rows l.block l.name l.at l.row-index
