@@ -1,7 +1,7 @@
--- A search for a byte, one place on.
-use Rattle.std.proofs.Common.{◌≡◌, ℕ, suc, ◌+◌, ◌<◌, ◌≤◌, cond, List, ◌∷◌, length, get_or, drop, sym, ap, ◌∙◌, arith}
-use Rattle.std.proofs.lemmas.Bool.{eq-eqb, ne_eqb}
-use Rattle.std.proofs.lemmas.List.{at_drop_more, at_drop_all}
+-- A search for a byte.
+use Rattle.std.proofs.Common.{◌≡◌, ℕ, suc, ◌+◌, ◌<◌, ◌≤◌, Bool, true, false, not, cond, ltb, List, [], ◌∷◌, length, Some, None, is_some, unwrap_or, ◌==◌, sym, refl, ap, ◌∙◌, ⊎_elim, arith}
+use Rattle.std.specs.List.{position, position_or_len}
+use Rattle.std.proofs.lemmas.Bool.{eq-eqb, ne_eqb, cases_lt, lt-ltb, le-ltb, both_ways}
 use Rattle.octets.specs.Search.{up_to}
 
 pub up_to_here : (c x : ℕ) (xs : List ℕ) → x ≡ c → up_to c (x ∷ xs) ≡ 0
@@ -10,12 +10,47 @@ up_to_here c x xs e = ap (λ z. cond z 0 (suc (up_to c xs))) (eq-eqb x c e)
 pub up_to_on : (c x : ℕ) (xs : List ℕ) → (x ≡ c → ⊥) → up_to c (x ∷ xs) ≡ suc (up_to c xs)
 up_to_on c x xs n = ap (λ z. cond z 0 (suc (up_to c xs))) (ne_eqb x c n)
 
-module _ (c : ℕ) (s : List ℕ) (i : ℕ) where
-  pub seek_on : i < length s → (get_or s i 0 ≡ c → ⊥) → (i + 1) + up_to c (drop (i + 1) s) ≡ i + up_to c (drop i s)
-  seek_on h n = (omega arith) ∙ ap (λ z. i + z) (sym (at_drop_more (up_to c) s i 0 h ∙ up_to_on c (get_or s i 0) (drop (i + 1) s) n))
+up_to_is : (c : ℕ) (xs : List ℕ) → up_to c xs ≡ position_or_len (λ x. x == c) xs
+up_to_is c [] = refl
+up_to_is c (x ∷ xs) = turn (x == c) _ _ (up_to_is c xs)
+  where
+    turn : (b : Bool) (m n : ℕ) → m ≡ n → cond b 0 (suc m) ≡ cond (not b) (1 + n) 0
+    turn true m n e = refl
+    turn false m n e = let r : suc m ≡ 1 + n = omega arith in r
 
-  pub seek_found : i < length s → get_or s i 0 ≡ c → i ≡ i + up_to c (drop i s)
-  seek_found h e = (omega arith) ∙ ap (λ z. i + z) (sym (at_drop_more (up_to c) s i 0 h ∙ up_to_here c (get_or s i 0) (drop (i + 1) s) e))
+up_to_le : (c : ℕ) (xs : List ℕ) → up_to c xs ≤ length xs
+up_to_le c [] = omega arith
+up_to_le c (x ∷ xs) = turn (x == c) _ _ (up_to_le c xs)
+  where
+    turn : (b : Bool) (m n : ℕ) → m ≤ n → cond b 0 (suc m) ≤ suc n
+    turn true m n l = omega arith
+    turn false m n l = omega arith
 
-  pub seek_none : length s ≤ i → i ≡ i + up_to c (drop i s)
-  seek_none h = (omega arith) ∙ ap (λ z. i + z) (sym (at_drop_all (up_to c) s i h))
+-- the place of the first c is how many bytes come before it, unless those are all
+position_is : (c : ℕ) (xs : List ℕ) → position (λ x. x == c) xs ≡ cond (ltb (up_to c xs) (length xs)) (Some (up_to c xs)) None
+position_is c xs = ap (λ k. cond (ltb k (length xs)) (Some k) None) (sym (up_to_is c xs))
+
+module _ (c : ℕ) (xs : List ℕ) where
+  there : up_to c xs < length xs → position (λ x. x == c) xs ≡ Some (up_to c xs)
+  there l = position_is c xs ∙ ap (λ b. cond b (Some (up_to c xs)) None) (lt-ltb (up_to c xs) (length xs) l)
+
+  absent : length xs ≤ up_to c xs → position (λ x. x == c) xs ≡ None
+  absent l = position_is c xs ∙ ap (λ b. cond b (Some (up_to c xs)) None) (le-ltb (up_to c xs) (length xs) l)
+
+  pub place_or_end : unwrap_or (position (λ x. x == c) xs) (length xs) ≡ up_to c xs
+  place_or_end = ⊎_elim
+      (λ (l : up_to c xs < length xs). ap (λ r. unwrap_or r (length xs)) (there l))
+      (λ (l : length xs ≤ up_to c xs). ap (λ r. unwrap_or r (length xs)) (absent l) ∙ (omega (arith, up_to_le c xs)))
+      (cases_lt (up_to c xs) (length xs))
+
+  pub found_at : (i : ℕ) → Some i ≡ position (λ x. x == c) xs → (up_to c xs ≡ i) × (i < length xs)
+  found_at i e = ⊎_elim
+      (λ (l : up_to c xs < length xs). let s : up_to c xs ≡ i = ap (λ r. unwrap_or r 0) (sym (e ∙ there l)) in (s, omega arith))
+      (λ (l : length xs ≤ up_to c xs). absurd (both_ways true (ap is_some (e ∙ absent l)) refl))
+      (cases_lt (up_to c xs) (length xs))
+
+  pub found_none : None ≡ position (λ x. x == c) xs → up_to c xs ≡ length xs
+  found_none e = ⊎_elim
+      (λ (l : up_to c xs < length xs). absurd (both_ways false refl (ap is_some (e ∙ there l))))
+      (λ (l : length xs ≤ up_to c xs). omega (arith, up_to_le c xs))
+      (cases_lt (up_to c xs) (length xs))

@@ -6,7 +6,7 @@ ghost use Rattle.octets.specs.Numbers.{number};
 fn byte_at(bytes: &[u8], at: usize) -> u8
     ensures { result ≡ slice_index bytes.now at }
 {
-    if at < bytes.len() { bytes[at] } else { 0 }
+    bytes.get(at).copied().unwrap_or(0)
 }
 
 // The number that the first four bytes write. A byte that is not there counts as 0.
@@ -24,8 +24,8 @@ pub fn leading_number(bytes: &[u8]) -> u32
 pub fn number_at(bytes: &[u8], at: usize) -> u32
     ensures { result ≡ number (drop at bytes.now) }
 {
-    if at > bytes.len() {
-        return 0;
+    match bytes.get(at..) {
+        Some(rest) => leading_number(rest),
+        None => 0,
     }
-    leading_number(&bytes[at..])
 }

@@ -3,4 +3,4 @@ use Rattle.octets.specs.Hex.{hex}
 use Rattle.octets.proofs.hex.write.Given as goal
 
 abbrev pub invariant-loop-i : goal.invariant-loop-i
-invariant-loop-i l = l.out ≡ hex (take l.i l.bytes) ++ drop (2 * l.i) l.initial.out
+invariant-loop-i l = l.out ≡ hex (take l.i l.part) ++ drop (2 * l.i) l.initial.out
