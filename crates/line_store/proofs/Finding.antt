@@ -1,103 +1,76 @@
--- A scan for a name, line by line.
-use Rattle.std.proofs.Common.{◌≡◌, ℕ, ◌+◌, ◌-◌, ◌<◌, ◌≤◌, cond, List, [], ◌∷◌, length, take, drop, is_some, Some, None, Option, sym, refl, ap, ◌∙◌, ⊎_elim, arith, MatchOption}
-use Rattle.std.proofs.lemmas.List.{length-drop, drop_all}
+-- A look for a name, line by line.
+use Rattle.std.proofs.Common.{◌≡◌, ℕ, cond, List, [], ◌∷◌, ◌++◌, length, is_some, Some, None, Option, Bor, sym, refl, ap, ◌∙◌, ⊎_elim, arith}
+use Rattle.std.proofs.lemmas.List.{length-append}
 use Rattle.std.proofs.lemmas.Bool.{cases_Bool}
 use Rattle.std.proofs.lemmas.Slice.Eq.{bytes_eq-Decides}
 use Rattle.std.specs.Str.{bytes_eq}
+use Rattle.std.specs.Option.{option_copied, option_map}
 use Rattle.octets.specs.Hex.{hex}
 use Rattle.octets.proofs.Hexed.{hex_one}
-use Rattle.store.specs.Meanings.{body_of}
 use Rattle.store.specs.Entries.{Entry, look_up}
-use Rattle.octets.specs.Search.{up_to}
-use Rattle.line_store.specs.Texts.{line_then, text_of}
-use Rattle.line_store.specs.Marked.{Holds}
-use Rattle.line_store.specs.declared.lines.Marks.{Marks}
-use Rattle.line_store.proofs.Seeking.{LineAt, line_at}
-use Rattle.line_store.proofs.Telling.{text_one}
+use Rattle.line_store.specs.Texts.{text_of}
+use Rattle.line_store.proofs.Cutting.{Reads, NoLine}
 
--- what is left of the text from `at` on looks up as the whole
-pub record Left (text key : List ℕ) (at : ℕ) : Type 0 where
-  pub within : at ≤ length text
-  pub rest : List Entry
-  pub says : text_of rest ≡ drop at text
-  pub looks : (ps : List Entry) → text_of ps ≡ text → (n : List ℕ) → hex n ≡ key → look_up rest n ≡ look_up ps n
-
-pub left_none : (text key : List ℕ) (ps : List Entry) → text_of ps ≡ text → Left text key 0
-left_none text key ps e = record {
-  within = omega arith;
-  rest = ps;
-  says = e;
-  looks = λ qs f n h. ap (λ z. look_up z n) (text_one ps qs (e ∙ sym f));
-}
-
-pub record Head (text key : List ℕ) (at : ℕ) : Type 0 where
+-- the first of the entries that a text is of, by the line that is cut from it
+pub record First (ds : List Entry) (name body after : List ℕ) : Type 0 where
   pub entry : Entry
-  pub tail : List Entry
-  pub line : drop at text ≡ line_then entry (text_of tail)
-  pub looks : (ps : List Entry) → text_of ps ≡ text → (n : List ℕ) → hex n ≡ key → cond (bytes_eq entry.0 n) (Some entry.1) (look_up tail n) ≡ look_up ps n
+  pub others : List Entry
+  pub is : ds ≡ entry ∷ others
+  pub name_is : name ≡ hex entry.0
+  pub body_is : body ≡ hex entry.1
+  pub after_is : text_of others ≡ after
 
-pub head : (text key : List ℕ) (at : ℕ) → Left text key at → at < length text → Head text key at
-head text key at l h = go l.rest l.says l.looks
-  where
-    go : (rs : List Entry) → text_of rs ≡ drop at text → ((ps : List Entry) → text_of ps ≡ text → (n : List ℕ) → hex n ≡ key → look_up rs n ≡ look_up ps n) → Head text key at
-    go [] s k = absurd (omega (arith, ap length s, length-drop at text))
-    go (p ∷ rs) s k = record { entry = p; tail = rs; line = sym s; looks = k }
+pub first : (ds : List Entry) (rest name body after : List ℕ) → rest ≡ name ++ 0x20 ∷ (body ++ 0x0a ∷ after) → Reads rest name body after → text_of ds ≡ rest → First ds name body after
+first [] rest name body after cut reads e = absurd (omega (arith, ap length (e ∙ cut), length-append name (0x20 ∷ (body ++ 0x0a ∷ after))))
+first (d ∷ ds) rest name body after cut reads e =
+    let m = reads d (text_of ds) (sym e) in
+    record { entry = d; others = ds; is = refl; name_is = m.0; body_is = m.1; after_is = sym m.2 }
 
--- the line at the head, by its two places
-pub head_line : (text key : List ℕ) (at space feed : ℕ) (d : Head text key at) → at ≤ length text → space ≡ at + up_to 0x20 (drop at text) → feed ≡ (space + 1) + up_to 0x0a (drop (space + 1) text)
-    → LineAt text at d.entry (text_of d.tail) space feed
-head_line text key at space feed d h em ee = line_at text at d.entry (text_of d.tail) space feed h d.line em ee
+pub none_first : (ds : List Entry) (rest : List ℕ) → NoLine rest → text_of ds ≡ rest → ds ≡ []
+none_first [] rest none e = refl
+none_first (d ∷ ds) rest none e = absurd (none d (text_of ds) (sym e))
 
-module _ (text key : List ℕ) (at space feed : ℕ) (d : Head text key at) (l : LineAt text at d.entry (text_of d.tail) space feed) where
-  pub head_found : take (space - at) (drop at text) ≡ key → (ps : List Entry) → text_of ps ≡ text → (n : List ℕ) → hex n ≡ key → Holds text (look_up ps n) (record { space = space; feed = feed })
-  head_found t ps e n h =
-      let p = d.entry in
-      let same : p.0 ≡ n = hex_one p.0 n (sym l.name ∙ t ∙ sym h) in
-      let got : look_up ps n ≡ Some p.1 = sym (d.looks ps e n h) ∙ ap (λ z. cond z (Some p.1) (look_up d.tail n)) ((bytes_eq-Decides p.0 n).1 same) in
-      let k = l.feed_is in
-      record {
-        there = ap is_some got;
-        order = omega arith;
-        within = l.within;
-        body = l.body ∙ ap (λ z. hex (body_of z)) (sym got);
-      }
+-- entries of what is left of a text, which look up the names of a key as those of the whole
+pub record LeftOf (es : List Entry) (key rest : List ℕ) : Type 0 where
+  pub left : List Entry
+  pub says : text_of left ≡ rest
+  pub looks : (n : List ℕ) → hex n ≡ key → look_up left n ≡ look_up es n
 
-  pub head_passed : (take (space - at) (drop at text) ≡ key → ⊥) → Left text key (feed + 1)
-  head_passed f = record {
-    within = (let k = l.within in omega arith);
-    rest = d.tail;
-    says = sym l.next;
-    looks = λ ps e n h. ⊎_elim
-        (λ t. absurd (f (l.name ∙ ap hex ((bytes_eq-Decides d.entry.0 n).0 t) ∙ h)))
-        (λ g. sym (ap (λ z. cond z (Some d.entry.1) (look_up d.tail n)) g) ∙ d.looks ps e n h)
-        (cases_Bool (bytes_eq d.entry.0 n));
+pub record Left (text key rest : List ℕ) : Type 0 where
+  pub of : (es : List Entry) → text_of es ≡ text → LeftOf es key rest
+
+module _ (text key rest name body after : List ℕ) (l : Left text key rest) (cut : rest ≡ name ++ 0x20 ∷ (body ++ 0x0a ∷ after)) (reads : Reads rest name body after) where
+  pub found : name ≡ key → (es : List Entry) (n : List ℕ) → text_of es ≡ text → hex n ≡ key → Some body ≡ option_map hex (look_up es n)
+  found same es n e h =
+      let r = l.of es e in
+      let f = first r.left rest name body after cut reads r.says in
+      let m : f.entry.0 ≡ n = hex_one f.entry.0 n (sym f.name_is ∙ same ∙ sym h) in
+      let k : look_up es n ≡ Some f.entry.1 =
+      sym (r.looks n h) ∙ ap (λ z. look_up z n) f.is ∙ ap (λ z. cond z (Some f.entry.1) (look_up f.others n)) ((bytes_eq-Decides f.entry.0 n).1 m) in
+      ap Some f.body_is ∙ sym (ap (option_map hex) k)
+
+  pub passed : (name ≡ key → ⊥) → Left text key after
+  passed other = record {
+    of = λ es e.
+        let r = l.of es e in
+        let f = first r.left rest name body after cut reads r.says in
+        record {
+          left = f.others;
+          says = f.after_is;
+          looks = λ n h. ⊎_elim
+              (λ t. absurd (other (f.name_is ∙ ap hex ((bytes_eq-Decides f.entry.0 n).0 t) ∙ h)))
+              (λ t. sym (ap (λ z. look_up z n) f.is ∙ ap (λ z. cond z (Some f.entry.1) (look_up f.others n)) t) ∙ r.looks n h)
+              (cases_Bool (bytes_eq f.entry.0 n));
+        };
   }
 
-pub left_all : (text key : List ℕ) (at : ℕ) → Left text key at → length text ≤ at → (ps : List Entry) → text_of ps ≡ text → (n : List ℕ) → hex n ≡ key → look_up ps n ≡ None
-left_all text key at l h ps e n k = sym (l.looks ps e n k) ∙ ap (λ z. look_up z n) (text_one l.rest [] (l.says ∙ drop_all at text h))
+pub left_all : (text key rest : List ℕ) → Left text key rest → NoLine rest → (es : List Entry) (n : List ℕ) → text_of es ≡ text → hex n ≡ key → None ≡ option_map hex (look_up es n)
+left_all text key rest l none es n e h =
+    let r = l.of es e in
+    ap (option_map hex) (sym (ap (λ z. look_up z n) (none_first r.left rest none r.says)) ∙ r.looks n h)
 
--- the space stands within the text
-pub space_within : (text key : List ℕ) (at space : ℕ) → Left text key at → at < length text → space ≡ at + up_to 0x20 (drop at text) → space + 1 ≤ length text
-space_within text key at space l h em =
-    let k = head_line text key at space ((space + 1) + up_to 0x0a (drop (space + 1) text)) (head text key at l h) (omega arith) em refl in
-    omega (arith, k.feed_is, k.within)
-
-module _ (text key : List ℕ) (at space feed : ℕ) (l : Left text key at) (h : at < length text) (em : space ≡ at + up_to 0x20 (drop at text)) (ee : feed ≡ (space + 1) + up_to 0x0a (drop (space + 1) text)) where
-  d : Head text key at
-  d = head text key at l h
-
-  k : LineAt text at d.entry (text_of d.tail) space feed
-  k = head_line text key at space feed d l.within em ee
-
-  pub feed_within : feed + 1 ≤ length text
-  feed_within = omega (arith, k.within)
-
-  pub found : take (space - at) (drop at text) ≡ key → (ps : List Entry) → text_of ps ≡ text → (n : List ℕ) → hex n ≡ key → Holds text (look_up ps n) (record { space = space; feed = feed })
-  found = head_found text key at space feed d k
-
-  pub passed : (take (space - at) (drop at text) ≡ key → ⊥) → Left text key (feed + 1)
-  passed = head_passed text key at space feed d k
-
-pub found_some : (text : List ℕ) (m : Option (List ℕ)) (r : Option Marks) → MatchOption r (m ≡ None) (λ w. Holds text m w) → is_some r ≡ is_some m
-found_some text m None e = ap is_some (sym e)
-found_some text m (Some w) h = sym h.there
+pub some_copied : (r : Option (Bor (List ℕ))) (o : Option (List ℕ)) → option_copied r ≡ option_map hex o → is_some r ≡ is_some o
+some_copied None None e = refl
+some_copied None (Some b) e = ap is_some e
+some_copied (Some x) None e = ap is_some e
+some_copied (Some x) (Some b) e = refl

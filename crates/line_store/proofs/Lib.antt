@@ -1,6 +1,6 @@
-mod Seeking
+mod Cutting
 mod Telling
 mod Finding
-mod Reading
-mod Writing
+mod Checking
+mod Added
 mod Listing

@@ -1,5 +1,5 @@
 -- Texts, and the entries that they are of.
-use Rattle.std.proofs.Common.{◌≡◌, ℕ, ◌+◌, ◌/◌, ◌%◌, ◌<◌, true, cond, not, ◌&&◌, List, [], ◌∷◌, ◌++◌, map, length, take, drop, is_some, sym, refl, ap, ◌∙◌, arith, length-append}
+use Rattle.std.proofs.Common.{◌≡◌, ℕ, ◌+◌, ◌/◌, ◌%◌, true, cond, not, ◌&&◌, List, [], ◌∷◌, ◌++◌, map, length, take, drop, is_some, sym, refl, ap, ◌∙◌, arith}
 use Rattle.std.proofs.lemmas.List.{append_assoc, append-nil, take_at, drop_at, drop-drop}
 use Rattle.std.proofs.lemmas.Bool.{and_parts, and_from, ne_eqb}
 use Rattle.std.proofs.lemmas.Slice.Eq.{bytes_eq-Decides}
@@ -7,12 +7,12 @@ use Rattle.std.specs.Str.{bytes_eq}
 use Rattle.octets.specs.Buffers.{are_bytes}
 use Rattle.octets.specs.Hex.{hex_digit, hex, unhex}
 use Rattle.octets.proofs.Hexed.{digit_big, unhex-hex}
-use Rattle.store.specs.Meanings.{Lawful, is_name, is_body}
+use Rattle.store.specs.Meanings.{is_name, is_body}
 use Rattle.store.specs.Entries.{Entry, is_entry, look_up, sound}
-use Rattle.store.proofs.Looking.{name_bytes, lawful}
+use Rattle.store.proofs.Looking.{name_bytes}
 use Rattle.octets.specs.Search.{up_to}
-use Rattle.line_store.specs.Texts.{line_then, text_of, Told, onto, lines_of, entry_of, entries_of, is_text}
-use Rattle.line_store.proofs.Seeking.{line_cancel, up_to-hex}
+use Rattle.line_store.specs.Texts.{line_then, text_of, onto, lines_of, entry_of, entries_of, is_text}
+use Rattle.line_store.proofs.Cutting.{up_to-hex}
 
 pub line_append : (p : Entry) (x y : List ℕ) → line_then p x ++ y ≡ line_then p (x ++ y)
 line_append p x y =
@@ -22,34 +22,6 @@ line_append p x y =
 pub text_append : (ps qs : List Entry) → text_of (ps ++ qs) ≡ text_of ps ++ text_of qs
 text_append [] qs = refl
 text_append (p ∷ ps) qs = ap (line_then p) (text_append ps qs) ∙ sym (line_append p (text_of ps) (text_of qs))
-
-line_long : (p : Entry) (x : List ℕ) → 0 < length (line_then p x)
-line_long p x = simp length-append (omega arith)
-
--- how a list goes on, where its text does
-pub record GoesOn (ps qs : List Entry) (d : List ℕ) : Type 0 where
-  pub rest : List Entry
-  pub whole : qs ≡ ps ++ rest
-  pub says : text_of rest ≡ d
-
-pub goes_on : (ps qs : List Entry) (d : List ℕ) → text_of ps ++ d ≡ text_of qs → GoesOn ps qs d
-goes_on [] qs d e = record { rest = qs; whole = refl; says = sym e }
-goes_on (p ∷ ps) [] d e =
-    let l = line_long p (text_of ps) in
-    absurd (omega (arith, simp length-append at (ap length e)))
-goes_on (p ∷ ps) (q ∷ qs) d e =
-    let m = line_cancel p q (text_of ps ++ d) (text_of qs) (sym (line_append p (text_of ps) d) ∙ e) in
-    let g = goes_on ps qs d m.1 in
-    record { rest = g.rest; whole = ap (λ z. z ∷ qs) (sym m.0) ∙ ap (λ z. p ∷ z) g.whole; says = g.says }
-
-pub text_one : (ps qs : List Entry) → text_of ps ≡ text_of qs → ps ≡ qs
-text_one ps qs e =
-    let g = goes_on ps qs [] (append-nil (text_of ps) ∙ e) in
-    nothing g.rest g.says g.whole
-  where
-    nothing : (rs : List Entry) → text_of rs ≡ [] → qs ≡ ps ++ rs → ps ≡ qs
-    nothing [] s w = sym (w ∙ append-nil ps)
-    nothing (r ∷ rs) s w = let l = line_long r (text_of rs) in absurd (omega (arith, ap length s))
 
 -- the first line of a text, where no line feed stands in it
 lines_on : (x : ℕ) (xs : List ℕ) → (x ≡ 10 → ⊥) → lines_of (x ∷ xs) ≡ onto x (lines_of xs)
@@ -85,12 +57,6 @@ entries_text (p ∷ ps) s =
     let b = and_parts (not (is_some (look_up ps p.0))) (sound ps) a.1 in
     ap (map entry_of) (lines_line p (text_of ps)) ∙ ap (λ z. z ∷ entries_of (text_of ps)) (entry_line p a.0) ∙ ap (λ z. p ∷ z) (entries_text ps b.1)
 
--- a text is that of some list exactly when it is_text, and then of the list that it is_text as
-pub is_text_told : (t : List ℕ) → is_text t ≡ true → Told t
-is_text_told t r =
-    let a = and_parts (bytes_eq (text_of (entries_of t)) t) (sound (entries_of t)) r in
-    (entries_of t, ((bytes_eq-Decides _ _).0 a.0, a.1))
-
 pub told_entries : (t : List ℕ) (ps : List Entry) → text_of ps ≡ t → sound ps ≡ true → entries_of t ≡ ps
 told_entries t ps e s = ap entries_of (sym e) ∙ entries_text ps s
 
@@ -101,7 +67,3 @@ told_is_text t ps e s =
 
 pub is_text_entries : (t : List ℕ) → is_text t ≡ true → (text_of (entries_of t) ≡ t) × (sound (entries_of t) ≡ true)
 is_text_entries t r = let a = and_parts (bytes_eq (text_of (entries_of t)) t) (sound (entries_of t)) r in ((bytes_eq-Decides _ _).0 a.0, a.1)
-
--- what a text means is lawful
-pub held_lawful : (t : List ℕ) → is_text t ≡ true → Lawful (look_up (entries_of t))
-held_lawful t r = lawful (entries_of t) (is_text_entries t r).1

@@ -1,4 +1,4 @@
 pub mod Texts
-pub mod Marked
 pub mod Held
 pub mod Opening
+pub mod Laws

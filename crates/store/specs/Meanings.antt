@@ -1,8 +1,7 @@
 -- What a store means: a set of entries, no name twice, as the look-up from a name to its body.
-use Rattle.std.specs.Prelude.{◌≡◌, ℕ, ◌≤◌, Bool, true, cond, ◌&&◌, List, [], length, is_some, IfSome, Some, None, Option, nat_le}
+use Rattle.std.specs.Prelude.{◌≡◌, ℕ, Bool, true, cond, ◌&&◌, List, [], length, Some, None, Option, nat_le}
 use Rattle.std.specs.List.{list_all}
 use Rattle.std.specs.Str.{bytes_eq}
-use Rattle.octets.specs.Buffers.{over}
 
 abbrev pub Meaning : Type 0
 Meaning = List ℕ → Option (List ℕ)
@@ -39,9 +38,3 @@ allowed n (Some b) = is_name n && is_body b
 -- only names have bodies, and only such as are bodies
 abbrev pub Lawful : Meaning → Type 0
 Lawful m = (n : List ℕ) → allowed n (m n) ≡ true
-
--- the body that was found is written at the buffer's start, and its length is given; nothing where none was found
-pub record Copied (found : Option (List ℕ)) (given : Option ℕ) (before after : List ℕ) : Type 0 where
-  pub there : is_some given ≡ is_some found
-  pub long : IfSome given (λ k. (k ≡ length (body_of found)) × (k ≤ length before))
-  pub after_is : after ≡ cond (is_some found) (over (body_of found) before) before
