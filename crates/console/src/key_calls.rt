@@ -93,7 +93,7 @@ impl Keys {
                 answer.text("signature ");
                 answer.hex_line(&buffer[0..len]);
             }
-            Err(refusal) => answer.refused(refusal.number()),
+            Err(refusal) => answer.refused(u8::from(refusal)),
         }
         Ok(())
     }
@@ -123,7 +123,7 @@ pub fn secret_of(
 
 fn tree_type(keytype: &[u8], number: usize) -> Option<LmsType> {
     if keytype == lms::many_time::KEYTYPE {
-        LmsType::from_number(u32::try_from(number).ok()?)
+        LmsType::try_from(u32::try_from(number).ok()?).ok()
     } else {
         None
     }

@@ -12,7 +12,7 @@ use crate::words::{id_words, seed_words};
 use crate::{checking, signing};
 use octets::buffer::put;
 use scheme::Scheme;
-use scheme::refusal::SignRefusal;
+use scheme::refusal::{SignRefusal, admit};
 
 // The keytype.
 pub const KEYTYPE: &[u8] = b"lmots";
@@ -30,13 +30,6 @@ impl OneTimeSecret {
         let public = signing::public_key(Leaf { id, number: 0 }, seed);
         OneTimeSecret { id, seed, public }
     }
-}
-
-// Whether this is the keytype of LM-OTS.
-pub fn is_keytype(keytype: &[u8]) -> bool
-    ensures { result ≡ bytes_eq keytype.now word }
-{
-    keytype == KEYTYPE
 }
 
 // The scheme.
@@ -73,11 +66,11 @@ impl Scheme for LmOts {
     ghost complete = { secret_held };
 
     fn is_well_formed(&self, keytype: &[u8], key: &[u8]) -> bool {
-        is_keytype(keytype) && checking::is_well_formed(key)
+        keytype == KEYTYPE && checking::is_well_formed(key)
     }
 
     fn check(&self, keytype: &[u8], key: &[u8], message: &[u8], signature: &[u8]) -> bool {
-        is_keytype(keytype) && checking::holds(key, message, signature)
+        keytype == KEYTYPE && checking::holds(key, message, signature)
     }
 
     fn keytype_of<'a>(&self, _secret: &'a OneTimeSecret) -> &'a [u8] {
@@ -103,12 +96,7 @@ impl Scheme for LmOts {
         message: &[u8],
         out: &mut [u8],
     ) -> Result<usize, SignRefusal> {
-        if out.len() < SIGNATURE_LEN {
-            return Err(SignRefusal::ShortBuffer);
-        }
-        if leaf >= LEAVES {
-            return Err(SignRefusal::UsedUp);
-        }
+        admit(out.len(), SIGNATURE_LEN, leaf, LEAVES)?;
         let signature = signing::sign(
             Leaf {
                 id: secret.id,

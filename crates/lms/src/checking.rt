@@ -9,6 +9,7 @@ ghost use Rattle.lms.specs.Lms.{height as height_of, well_formed, suitable, root
 
 use crate::kind::LmsType;
 use crate::nodes::{climb, leaf_node};
+use crate::signing::PUBLIC_KEY_LEN;
 use lmots::checking::{PARTS_LEN, candidate};
 use lmots::leaf::Leaf;
 use lmots::words::id_words;
@@ -48,7 +49,7 @@ fn suits(kind: LmsType, leaf: u32, one_time: u32, parts: &[u8]) -> bool
     ensures { result ≡ suitable (type_number kind) leaf one_time parts.now }
 {
     one_time == ONE_TIME_TYPE
-        && number_at(parts, PARTS_LEN) == kind.number()
+        && number_at(parts, PARTS_LEN) == u32::from(kind)
         && leaf < kind.leaves()
         && parts.len() == BEFORE_PATH + 32 * kind.height()
 }
@@ -57,11 +58,8 @@ fn suits(kind: LmsType, leaf: u32, one_time: u32, parts: &[u8]) -> bool
 pub fn is_well_formed(key: &[u8]) -> bool
     ensures { result ≡ well_formed key.now }
 {
-    let [t0, t1, t2, t3, rest @ ..] = key else {
-        return false;
-    };
-    let kind = LmsType::from_number(u32::from_be_bytes([*t0, *t1, *t2, *t3]));
-    kind.is_some() && leading_number(rest) == ONE_TIME_TYPE && rest.len() == REST_LEN
+    let kind = LmsType::try_from(leading_number(key));
+    kind.is_ok() && number_at(key, 4) == ONE_TIME_TYPE && key.len() == PUBLIC_KEY_LEN
 }
 
 // By the tests that make a signature hold. A key is its type and the rest; a signature is the
@@ -75,7 +73,7 @@ fn verdict(key: &[u8], message: &[u8], signature: &[u8]) -> bool
     let [q0, q1, q2, q3, o0, o1, o2, o3, parts @ ..] = signature else {
         return false;
     };
-    let Some(kind) = LmsType::from_number(u32::from_be_bytes([*t0, *t1, *t2, *t3])) else {
+    let Ok(kind) = LmsType::try_from(u32::from_be_bytes([*t0, *t1, *t2, *t3])) else {
         return false;
     };
     if leading_number(rest) != ONE_TIME_TYPE || rest.len() != REST_LEN {

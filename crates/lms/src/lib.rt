@@ -7,5 +7,4 @@ pub mod many_time;
 mod nodes;
 pub mod secret;
 mod signing;
-mod sizes;
 mod tree;

@@ -12,7 +12,7 @@ use crate::tree::{ROW, grow};
 use crate::{checking, signing};
 use lmots::words::{id_words, seed_words};
 use scheme::Scheme;
-use scheme::refusal::SignRefusal;
+use scheme::refusal::{SignRefusal, admit};
 
 // The keytype.
 pub const KEYTYPE: &[u8] = b"lms";
@@ -38,13 +38,6 @@ impl TreeSecret {
             nodes,
         }
     }
-}
-
-// Whether this is the keytype of LMS.
-pub fn is_keytype(keytype: &[u8]) -> bool
-    ensures { result ≡ bytes_eq keytype.now word }
-{
-    keytype == KEYTYPE
 }
 
 // The scheme.
@@ -81,11 +74,11 @@ impl Scheme for Lms {
     ghost complete = { secret_held };
 
     fn is_well_formed(&self, keytype: &[u8], key: &[u8]) -> bool {
-        is_keytype(keytype) && checking::is_well_formed(key)
+        keytype == KEYTYPE && checking::is_well_formed(key)
     }
 
     fn check(&self, keytype: &[u8], key: &[u8], message: &[u8], signature: &[u8]) -> bool {
-        is_keytype(keytype) && checking::holds(key, message, signature)
+        keytype == KEYTYPE && checking::holds(key, message, signature)
     }
 
     fn keytype_of<'a>(&self, _secret: &'a TreeSecret) -> &'a [u8] {
@@ -112,12 +105,7 @@ impl Scheme for Lms {
         out: &mut [u8],
     ) -> Result<usize, SignRefusal> {
         let len = self.signature_len(secret);
-        if out.len() < len {
-            return Err(SignRefusal::ShortBuffer);
-        }
-        if leaf >= secret.kind.leaves() {
-            return Err(SignRefusal::UsedUp);
-        }
+        admit(out.len(), len, leaf, secret.kind.leaves())?;
         signing::write(secret, leaf, message, out);
         Ok(len)
     }

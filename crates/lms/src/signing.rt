@@ -24,7 +24,7 @@ pub(crate) fn public_key(id: [u32; 4], kind: LmsType, nodes: &[u8]) -> [u8; PUBL
     ensures { (S : List ℕ) → Grown sha256 (height_of (type_number kind)) (bytes id) S 1 nodes.now → result ≡ public_key sha256 (type_number kind) (bytes id) S }
 {
     let mut key = [0; PUBLIC_KEY_LEN];
-    put(&mut key, 0, &kind.number().to_be_bytes());
+    put(&mut key, 0, &u32::from(kind).to_be_bytes());
     put(&mut key, 4, &ONE_TIME_TYPE);
     put(&mut key, 8, &id_bytes(id));
     put(&mut key, 24, &nodes[32..64]);
@@ -69,7 +69,7 @@ pub(crate) fn write(secret: &TreeSecret, leaf: u32, message: &[u8], out: &mut [u
     );
     put(out, 0, &leaf.to_be_bytes());
     put(out, 4, &one_time);
-    put(out, 1128, &kind.number().to_be_bytes());
+    put(out, 1128, &u32::from(kind).to_be_bytes());
     let nodes: &[u8] = &secret.nodes;
     put_path(out, 1132, nodes, kind.height(), kind.leaves() + leaf);
 }

@@ -3,7 +3,8 @@
 
 ghost use Rattle.std.specs.Prelude.{◌≡◌, ℕ, ◌^◌, ◌<◌, ◌≤◌, Bool, true, List, length, take, is_ok, IfOk, if◌then◌else◌};
 ghost use Rattle.octets.specs.Buffers.{over};
-ghost use Rattle.scheme.specs.Answers.{sign_code, sign_answer};
+ghost use Rattle.std.specs.Result.{result_err};
+ghost use Rattle.scheme.specs.Answers.{sign_refusal};
 ghost use Rattle.scheme.specs.Keytypes.{is_keytype};
 
 pub mod limits;
@@ -66,7 +67,7 @@ pub trait Scheme {
         message: &[u8],
         out: &mut [u8],
     ) -> Result<usize, SignRefusal>
-        ensures answer { sign_code result ≡ sign_answer (length out.old) (size (keytype_of secret.now) (public_key secret.now)) leaf (capacity secret.now) }
+        ensures answer { result_err result ≡ sign_refusal (length out.old) (size (keytype_of secret.now) (public_key secret.now)) leaf (capacity secret.now) }
         ensures long { IfOk result (λ n. (n ≡ size (keytype_of secret.now) (public_key secret.now)) × (n ≤ length out.old)) }
         ensures after { out.new ≡ (if is_ok result then over (signed secret.now leaf message.now) out.old else out.old) }
         ensures accepted { IfOk result (λ n. holds (keytype_of secret.now) (public_key secret.now) message.now (take n out.new) ≡ true) };

@@ -16,10 +16,10 @@ returns-in_default c = refused sha256 _ _ _ (λ f. omega (arith, ltb-true, ltb-f
 pub returns-in_default-signature : goal.returns-in_default-signature
 returns-in_default-signature c = refused sha256 _ _ _ (λ f. omega (arith, ltb-true, ltb-false, f.whole))
 
-pub returns-in_default-from_number : goal.returns-in_default-from_number
-returns-in_default-from_number c =
+pub returns-in_default-try_from : goal.returns-in_default-try_from
+returns-in_default-try_from c =
     let e : c.from_be_bytes.result ≡ number c.args.key.now = c.from_be_bytes.ensures in
-    refused sha256 _ _ _ (λ f. both_ways (known c.from_be_bytes.result) c.in_default-from_number.ensures (ap known e ∙ f.kind))
+    refused sha256 _ _ _ (λ f. both_ways (known c.from_be_bytes.result) c.in_default-try_from.ensures.1 (ap known e ∙ f.kind))
 
 pub returns-then-leading_number-ne-ONE_TIME_TYPE : goal.returns-then-leading_number-ne-ONE_TIME_TYPE
 returns-then-leading_number-ne-ONE_TIME_TYPE c =
@@ -32,7 +32,7 @@ returns-then-leading_number-ne-ONE_TIME_TYPE c =
 pub leads-requires : goal.leads-requires
 leads-requires c =
     let parts : List ℕ = take (length c.args.signature.now - 8) (drop 8 c.args.signature.now) in
-    let s = suits_parts (type_number c.in-Some.kind) c.from_be_bytes-leaf.result c.from_be_bytes-one_time.result parts (sym c.suits.ensures ∙ c.if-suits.true) in
+    let s = suits_parts (type_number c.in-Ok.kind) c.from_be_bytes-leaf.result c.from_be_bytes-one_time.result parts (sym c.suits.ensures ∙ c.if-suits.true) in
     record { key = omega arith; long = s.1; below = s.0 }
 
 -- a number that four bytes in a signature write
@@ -45,12 +45,12 @@ returns-then-suits c =
     let sig = c.args.signature.now in
     let k = take_rest key 4 in
     let s = take_rest sig 8 in
-    let kind : type_number c.in-Some.kind ≡ number key = c.in-Some.ensures ∙ c.from_be_bytes.ensures in
+    let kind : type_number c.in-Ok.kind ≡ number key = c.in-Ok.ensures ∙ c.from_be_bytes.ensures in
     let leaf : c.from_be_bytes-leaf.result ≡ number sig = c.from_be_bytes-leaf.ensures in
     let under : number (drop 4 key) ≡ 4 = sym (ap number k) ∙ sym c.leading_number.ensures ∙ (omega arith) in
     let long : length key ≡ 56 = omega (arith, ltb-true, ltb-false, ap length k, length-drop 4 key) in
     let some : 8 ≤ length sig = omega (arith, ltb-true, ltb-false) in
-    let f : Fit key sig = suits_fit key sig _ _ _ _ kind leaf (c.from_be_bytes-one_time.ensures ∙ one_time sig) s some (kind_known c.in-Some.kind).0 under long (sym c.suits.ensures ∙ c.if-suits.true) in
+    let f : Fit key sig = suits_fit key sig _ _ _ _ kind leaf (c.from_be_bytes-one_time.ensures ∙ one_time sig) s some (kind_known c.in-Ok.kind).0 under long (sym c.suits.ensures ∙ c.if-suits.true) in
     accepted sha256 key c.args.message.now sig _ _ _ _ c.leads.result f k s kind leaf c.leads.ensures
 
 pub returns-else-suits : goal.returns-else-suits
@@ -58,7 +58,7 @@ returns-else-suits c =
     let key = c.args.key.now in
     let sig = c.args.signature.now in
     let s = take_rest sig 8 in
-    let kind : type_number c.in-Some.kind ≡ number key = c.in-Some.ensures ∙ c.from_be_bytes.ensures in
+    let kind : type_number c.in-Ok.kind ≡ number key = c.in-Ok.ensures ∙ c.from_be_bytes.ensures in
     let leaf : c.from_be_bytes-leaf.result ≡ number sig = c.from_be_bytes-leaf.ensures in
     let some : 8 ≤ length sig = omega (arith, ltb-true, ltb-false) in
     c.if-suits.false

@@ -1,29 +1,26 @@
 use Rattle.std.proofs.Common.{◌≡◌, [], length, take, drop, refl, ap, ◌∙◌, arith}
 use Rattle.std.proofs.lemmas.List.{take_at}
-use Rattle.std.proofs.lemmas.Bool.Decides.{nat_tests}
 use Rattle.octets.specs.Buffers.{over}
-use Rattle.sha256.specs.Sha256.{bytes, sha256}
-use Rattle.sha256.proofs.Sizes.{length-bytes}
-use Rattle.lmots.specs.LmOts.{public_key, signature}
-use Rattle.lmots.specs.Keyed.{word, is_held}
-use Rattle.lmots.specs.KeyedLemmas.{signed_held}
+use Rattle.lmots.specs.Keyed.{word, is_held, public_of}
+use Rattle.lmots.specs.KeyedLemmas.{secret_held}
 use Rattle.lmots.proofs.one_time.LmOtsScheme.sign.Goals as goal
 
-pub returns : goal.returns
-returns c =
+pub returns-clause-after : goal.returns-clause-after
+returns-clause-after c =
     let s = c.args.secret.now in
-    let I = bytes s.id in
-    let S = bytes s.seed in
+    let out = c.args.out.now in
+    let long : length c.sign-signature.result ≡ 1124 = grind arith in
+    let room = c.in_ok-admit.ensures.room in
+    c.put.ensures.written [] out refl refl (omega arith) ∙ ap (λ v. over v out) c.sign-signature.ensures
+
+pub returns-clause-accepted : goal.returns-clause-accepted
+returns-clause-accepted c =
+    let s = c.args.secret.now in
     let m = c.args.message.now in
     let out = c.args.out.now in
     let sig = c.sign-signature.result in
     let long : length sig ≡ 1124 = grind arith in
+    let room = c.in_ok-admit.ensures.room in
     let written : c.put.new.buffer ≡ over sig out = c.put.ensures.written [] out refl refl (omega arith) in
-    let is : sig ≡ signature sha256 I c.args.leaf S m = c.sign-signature.ensures in
-    record {
-      answer = grind (arith, nat_tests);
-      long = (refl, omega arith);
-      after = written ∙ ap (λ v. over v out) is;
-      accepted = ap (λ v. is_held word (public_key sha256 I 0 S) m v) (ap (take 1124) written ∙ take_at sig (drop (length sig) out) 1124 long ∙ is)
-          ∙ signed_held I 0 c.args.leaf S m (omega (arith, length-bytes s.id, s.whole)) (omega arith) (omega arith);
-    }
+    ap (λ v. is_held word (public_of s) m v) (ap (take 1124) written ∙ take_at sig (drop (length sig) out) 1124 long ∙ c.sign-signature.ensures)
+    ∙ secret_held s c.args.leaf m (omega arith)
