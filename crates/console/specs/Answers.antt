@@ -1,8 +1,8 @@
 -- What the program answers.
-use Rattle.std.specs.Prelude.{ℕ, Bool, cond, List, ◌++◌, length, is_some, Some, None, vec_items, codes, decimal, Option, ◌==◌}
+use Rattle.std.specs.Prelude.{◌≡◌, ℕ, Bool, cond, List, ◌++◌, length, is_some, Some, None, vec_items, codes, decimal, Option, Result, OnOk, ◌==◌}
 use Rattle.octets.specs.Hex.{hex}
-use Rattle.language.specs.Writing.{Adds, line_of, yes_or_no, refusal, coded}
-use Rattle.language.specs.declared.answer.Answer.{Answer}
+use Rattle.language.specs.Writing.{line_of, yes_or_no, refusal, coded}
+use Rattle.std.specs.declared.alloc.AllocError.{AllocError}
 use Rattle.language.specs.declared.call.StoreCall.{StoreCall}
 use Rattle.language.specs.declared.call.StoreCall.TheVariants.{File, Get, Has, Fits, Entries}
 use Rattle.store.specs.Answers.{get_answer, file_answer}
@@ -51,12 +51,12 @@ abbrev pub number_of : Meaning → (ℕ → ℕ → Bool) → List ℕ → List 
 number_of m room name body = file_answer name body (is_some (m name)) (room (length name) (length body))
 
 -- what a store's answer to a call is, by what it means and has room for. Of `entries` nothing is said
-abbrev pub Replies : Meaning → (ℕ → ℕ → Bool) → StoreCall → Answer → Answer → Type 0
-Replies m room (File n b) old new = Adds old new (filed (number_of m room (vec_items n) (vec_items b)))
-Replies m room (Get n space) old new = Adds old new (got (body_of (m (vec_items n))) (get_answer (space_of space) (vec_items n) (is_some (m (vec_items n)))))
-Replies m room (Has n) old new = Adds old new (yes_or_no (is_some (m (vec_items n))))
-Replies m room (Fits n b) old new = Adds old new (yes_or_no (room n b))
-Replies m room Entries old new = Unit {0}
+abbrev pub Replies : Meaning → (ℕ → ℕ → Bool) → StoreCall → List ℕ → Result (Unit {0}) AllocError → List ℕ → Type 0
+Replies m room (File n b) old r new = OnOk r (new ≡ old ++ (filed (number_of m room (vec_items n) (vec_items b))))
+Replies m room (Get n space) old r new = OnOk r (new ≡ old ++ (got (body_of (m (vec_items n))) (get_answer (space_of space) (vec_items n) (is_some (m (vec_items n))))))
+Replies m room (Has n) old r new = OnOk r (new ≡ old ++ (yes_or_no (is_some (m (vec_items n)))))
+Replies m room (Fits n b) old r new = OnOk r (new ≡ old ++ (yes_or_no (room n b)))
+Replies m room Entries old r new = Unit {0}
 
 -- what the store means afterwards
 abbrev pub afterwards : Meaning → (ℕ → ℕ → Bool) → StoreCall → Meaning
