@@ -1,44 +1,31 @@
 -- What the program answers.
-use Rattle.std.specs.Prelude.{ℕ, Bool, cond, List, ◌++◌, length, is_some, Some, None, vec_items, codes, decimal, Option, ◌==◌}
+use Rattle.std.specs.Prelude.{◌≡◌, ℕ, Bool, cond, List, ◌++◌, length, is_some, Some, None, vec_items, codes, decimal, Option, Result, OnOk}
 use Rattle.octets.specs.Hex.{hex}
-use Rattle.language.specs.Writing.{Adds, line_of, yes_or_no, refusal, coded}
-use Rattle.language.specs.declared.answer.Answer.{Answer}
+use Rattle.language.specs.Writing.{line_of, yes_or_no, refusal, coded}
+use Rattle.std.specs.declared.alloc.AllocError.{AllocError}
 use Rattle.language.specs.declared.call.StoreCall.{StoreCall}
 use Rattle.language.specs.declared.call.StoreCall.TheVariants.{File, Get, Has, Fits, Entries}
 use Rattle.store.specs.declared.refusal.GetRefusal.{GetRefusal}
 use Rattle.store.specs.declared.refusal.FileRefusal.{FileRefusal}
 use Rattle.store.specs.Answers.{get_number, file_number, get_refusal, file_refusal}
+use Rattle.scheme.specs.declared.refusal.SignRefusal.{SignRefusal}
+use Rattle.scheme.specs.Answers.{sign_number}
 use Rattle.store.specs.Meanings.{Meaning, body_of, with}
 use Rattle.sha256.specs.Sha256.{sha256}
 use Rattle.hash_based.specs.Joined.{is_formed, is_held}
 
--- the number of an answer to `get`: 0 where it is granted, else the refusal's
-abbrev pub get_code : Option GetRefusal → ℕ
-get_code None = 0
-get_code (Some e) = get_number e
-
-abbrev pub get_answer : ℕ → List ℕ → Bool → ℕ
-get_answer space name there = get_code (get_refusal space name there)
-
--- the number of an answer to `file`
-abbrev pub file_code : Option FileRefusal → ℕ
-file_code None = 0
-file_code (Some e) = file_number e
-
-abbrev pub file_answer : List ℕ → List ℕ → Bool → Bool → ℕ
-file_answer name body there fits = file_code (file_refusal name body there fits)
-
--- a text where the number is 0, else the refusal of that number
-abbrev pub granted : List ℕ → ℕ → List ℕ
-granted text n = cond (n == 0) text (refusal n)
+-- a text where a call is granted, else the refusal with its number
+abbrev pub granted : {R : Type 0} → (R → ℕ) → List ℕ → Option R → List ℕ
+granted number text None = text
+granted number text (Some r) = refusal (number r)
 
 -- file
-abbrev pub filed : ℕ → List ℕ
-filed n = granted (line_of (codes "filed")) n
+abbrev pub filed : Option FileRefusal → List ℕ
+filed r = granted file_number (line_of (codes "filed")) r
 
 -- get, with the body that was found
-abbrev pub got : List ℕ → ℕ → List ℕ
-got body n = granted (codes "got " ++ (decimal (length body) ++ (codes " " ++ coded body))) n
+abbrev pub got : List ℕ → Option GetRefusal → List ℕ
+got body r = granted get_number (codes "got " ++ (decimal (length body) ++ (codes " " ++ coded body))) r
 
 -- hash
 abbrev pub hashed : List ℕ → List ℕ
@@ -56,29 +43,29 @@ abbrev pub made : List ℕ → List ℕ → List ℕ
 made w key = codes "public " ++ (w ++ (codes " " ++ coded key))
 
 -- sign
-abbrev pub signed : List ℕ → ℕ → List ℕ
-signed sig n = granted (codes "signature " ++ coded sig) n
+abbrev pub signed : List ℕ → Option SignRefusal → List ℕ
+signed sig r = granted sign_number (codes "signature " ++ coded sig) r
 
 -- the buffer's size that a call of `get` asks for
 abbrev pub space_of : Option ℕ → ℕ
 space_of (Some n) = n
 space_of None = 32768
 
--- the number of a call's answer, for a store of this meaning and room
-abbrev pub number_of : Meaning → (ℕ → ℕ → Bool) → List ℕ → List ℕ → ℕ
-number_of m room name body = file_answer name body (is_some (m name)) (room (length name) (length body))
+-- why an entry is not filed in a store of this meaning and room, if it is not
+abbrev pub not_filed : Meaning → (ℕ → ℕ → Bool) → List ℕ → List ℕ → Option FileRefusal
+not_filed m room name body = file_refusal name body (is_some (m name)) (room (length name) (length body))
 
 -- what a store's answer to a call is, by what it means and has room for. Of `entries` nothing is said
-abbrev pub Replies : Meaning → (ℕ → ℕ → Bool) → StoreCall → Answer → Answer → Type 0
-Replies m room (File n b) old new = Adds old new (filed (number_of m room (vec_items n) (vec_items b)))
-Replies m room (Get n space) old new = Adds old new (got (body_of (m (vec_items n))) (get_answer (space_of space) (vec_items n) (is_some (m (vec_items n)))))
-Replies m room (Has n) old new = Adds old new (yes_or_no (is_some (m (vec_items n))))
-Replies m room (Fits n b) old new = Adds old new (yes_or_no (room n b))
-Replies m room Entries old new = Unit {0}
+abbrev pub Replies : Meaning → (ℕ → ℕ → Bool) → StoreCall → List ℕ → Result (Unit {0}) AllocError → List ℕ → Type 0
+Replies m room (File n b) old r new = OnOk r (new ≡ old ++ (filed (not_filed m room (vec_items n) (vec_items b))))
+Replies m room (Get n space) old r new = OnOk r (new ≡ old ++ (got (body_of (m (vec_items n))) (get_refusal (space_of space) (vec_items n) (is_some (m (vec_items n))))))
+Replies m room (Has n) old r new = OnOk r (new ≡ old ++ (yes_or_no (is_some (m (vec_items n)))))
+Replies m room (Fits n b) old r new = OnOk r (new ≡ old ++ (yes_or_no (room n b)))
+Replies m room Entries old r new = Unit {0}
 
 -- what the store means afterwards
 abbrev pub afterwards : Meaning → (ℕ → ℕ → Bool) → StoreCall → Meaning
-afterwards m room (File n b) = cond (number_of m room (vec_items n) (vec_items b) == 0) (with m (vec_items n) (vec_items b)) m
+afterwards m room (File n b) = cond (is_some (not_filed m room (vec_items n) (vec_items b))) m (with m (vec_items n) (vec_items b))
 afterwards m room (Get n space) = m
 afterwards m room (Has n) = m
 afterwards m room (Fits n b) = m

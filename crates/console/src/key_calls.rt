@@ -1,77 +1,73 @@
 // The calls of hashes, keys and signatures.
-ghost use Rattle.language.specs.Writing.{Adds};
+ghost use Rattle.std.specs.Prelude.{◌≡◌, ◌++◌, OnOk};
 ghost use Rattle.console.specs.Answers.{hashed, checked};
 
 use hash_based::HashBased;
 use hash_based::secret::HashBasedSecret;
 use language::answer::Answer;
+use language::call::{CheckCall, KeyCall};
 use language::mistake::{Mistake, Trouble};
 use lmots::secret::OneTimeSecret;
 use lms::kind::LmsType;
 use lms::secret::TreeSecret;
 use scheme::Scheme;
 use scheme::limits::SIGNATURE_MAX;
-use std::alloc::Global;
+use std::alloc::{AllocError, Global};
+use std::collections::HashMap;
 
 // hash BYTES
-pub fn hash(message: &[u8], answer: &mut Answer)
-    ensures { Adds answer.old answer.new (hashed message.now) }
+pub fn hash(message: &[u8], answer: &mut Answer) -> Result<(), AllocError>
+    ensures { OnOk result (answer.new ≡ answer.old ++ hashed message.now) }
 {
-    answer.text("sha256 ");
-    answer.digits_line(&sha256::digest(message));
+    answer.text("sha256 ")?;
+    answer.digits_line(&sha256::digest(message))
 }
 
 // check KEYTYPE PUBLIC BYTES SIGNATURE
-pub fn check(keytype: &[u8], public: &[u8], message: &[u8], signature: &[u8], answer: &mut Answer)
-    ensures { Adds answer.old answer.new (checked keytype.now public.now message.now signature.now) }
+pub fn check(call: &CheckCall, answer: &mut Answer) -> Result<(), AllocError>
+    ensures { OnOk result (answer.new ≡ answer.old ++ checked call.now.keytype.items call.now.public.items call.now.message.items call.now.signature.items) }
 {
+    let keytype = call.keytype.as_slice();
+    let public = call.public.as_slice();
     if !HashBased.is_well_formed(keytype, public) {
-        answer.line("ill-formed");
-    } else if HashBased.check(keytype, public, message, signature) {
-        answer.line("holds");
+        answer.line("ill-formed")
+    } else if HashBased.check(
+        keytype,
+        public,
+        call.message.as_slice(),
+        call.signature.as_slice(),
+    ) {
+        answer.line("holds")
     } else {
-        answer.line("fails");
+        answer.line("fails")
     }
 }
 
-// A key that the script made.
-#[derive(Drop)]
-struct Key {
-    id: Vec<u8>,
-    secret: HashBasedSecret,
-}
-
-// The keys of a script. An ID that is given again means the key made last.
+// The keys of a script by their IDs. An ID that is given again means the key made last.
 #[derive(Drop)]
 pub struct Keys {
-    keys: Vec<Key>,
+    heap: Global,
+    secrets: HashMap<Vec<u8>, Box<HashBasedSecret>>,
 }
 
 impl Keys {
     pub fn new(heap: Global) -> Keys {
         Keys {
-            keys: Vec::new(heap),
+            heap,
+            secrets: HashMap::new(heap),
         }
-    }
-
-    fn find(&self, id: &[u8]) -> Option<&HashBasedSecret> {
-        for key in self.keys.iter().rev() {
-            if key.id.as_slice() == id {
-                return Some(&key.secret);
-            }
-        }
-        None
     }
 
     // key ID KEYTYPE TYPE I SEED
-    pub fn make(&mut self, id: Vec<u8>, secret: HashBasedSecret, answer: &mut Answer) {
-        answer.text("public ");
-        answer.raw(HashBased.keytype_of(&secret));
-        answer.text(" ");
-        answer.hex_line(HashBased.public_key(&secret));
-        if self.keys.push(Key { id, secret }).is_err() {
-            answer.run_out();
-        }
+    pub fn make(&mut self, call: KeyCall, answer: &mut Answer) -> Result<(), Trouble> {
+        let secret = secret_of(&call)?;
+        answer.text("public ")?;
+        answer.raw(HashBased.keytype_of(&secret))?;
+        answer.text(" ")?;
+        answer.hex_line(HashBased.public_key(&secret))?;
+        let secret = Box::new(self.heap, secret)?;
+        self.secrets.insert(call.id, secret)?;
+        Ok(())
     }
 
     // sign ID LEAF BYTES
@@ -82,43 +78,35 @@ impl Keys {
         message: &[u8],
         answer: &mut Answer,
     ) -> Result<(), Trouble> {
-        let Some(secret) = self.find(id) else {
-            return Err(Trouble::Script(Mistake::UnknownKey));
-        };
+        let secret = self.secrets.get(id).ok_or(Mistake::UnknownKey)?;
         // no key has a leaf past the greatest number
         let leaf = u32::try_from(leaf).unwrap_or(u32::MAX);
         let mut buffer = [0; SIGNATURE_MAX];
         match HashBased.sign(secret, leaf, message, &mut buffer) {
             Ok(len) => {
-                answer.text("signature ");
-                answer.hex_line(&buffer[0..len]);
+                answer.text("signature ")?;
+                answer.hex_line(&buffer[..len])?;
             }
-            Err(refusal) => answer.refused(u8::from(refusal)),
+            Err(refusal) => answer.refused(u8::from(refusal))?,
         }
         Ok(())
     }
 }
 
 // The secret of a keytype, the number of a type, an identifier and a seed.
-pub fn secret_of(
-    keytype: &[u8],
-    number: usize,
-    id: &[u8],
-    seed: &[u8],
-) -> Result<HashBasedSecret, Trouble> {
+fn secret_of(call: &KeyCall) -> Result<HashBasedSecret, Mistake> {
     let (Some((id, [])), Some((seed, []))) = (
-        id.split_first_chunk::<16>(),
-        seed.split_first_chunk::<32>(),
+        call.identifier.as_slice().split_first_chunk::<16>(),
+        call.seed.as_slice().split_first_chunk::<32>(),
     ) else {
-        return Err(Trouble::Script(Mistake::NotAKey));
+        return Err(Mistake::NotAKey);
     };
-    if keytype == lmots::one_time::KEYTYPE && number == 4 {
+    let keytype = call.keytype.as_slice();
+    if keytype == lmots::one_time::KEYTYPE && call.number == 4 {
         return Ok(HashBasedSecret::OneTime(OneTimeSecret::new(id, seed)));
     }
-    match tree_type(keytype, number) {
-        Some(kind) => Ok(HashBasedSecret::Tree(TreeSecret::new(kind, id, seed))),
-        None => Err(Trouble::Script(Mistake::UnknownKeytype)),
-    }
+    let kind = tree_type(keytype, call.number).ok_or(Mistake::UnknownKeytype)?;
+    Ok(HashBasedSecret::Tree(TreeSecret::new(kind, id, seed)))
 }
 
 fn tree_type(keytype: &[u8], number: usize) -> Option<LmsType> {

@@ -1,19 +1,24 @@
 // The calls that go to a store.
-ghost use Rattle.std.specs.Prelude.{◌≡◌, length, is_some, if◌then◌else◌, nat_eq};
-ghost use Rattle.language.specs.Writing.{Adds};
+ghost use Rattle.std.specs.Prelude.{◌≡◌, ◌++◌, length, is_some, if◌then◌else◌, OnOk};
+ghost use Rattle.store.specs.Answers.{get_refusal};
 ghost use Rattle.store.specs.Meanings.{body_of, with};
-ghost use Rattle.console.specs.Answers.{get_answer, filed, got, number_of, Replies, afterwards};
+ghost use Rattle.console.specs.Answers.{filed, got, not_filed, Replies, afterwards};
 
 use language::answer::Answer;
 use language::call::StoreCall;
 use line_store::LineStore;
+use std::alloc::AllocError;
 use store::Store;
 use store::limits::{BODY_MAX, NAME_MAX};
 use store::listing::Listing;
 
 // Makes the call, and writes its answer.
-pub fn answer_store<S: Store + Listing>(store: &mut S, call: StoreCall, answer: &mut Answer)
-    ensures replies { Replies (S.Store.meaning store.old) (S.Store.room store.old) call answer.old answer.new }
+pub fn answer_store<S: Store + Listing>(
+    store: &mut S,
+    call: StoreCall,
+    answer: &mut Answer,
+) -> Result<(), AllocError>
+    ensures replies { Replies (S.Store.meaning store.old) (S.Store.room store.old) call answer.old result answer.new }
     ensures meaning { S.Store.meaning store.new ≡ afterwards (S.Store.meaning store.old) (S.Store.room store.old) call }
 {
     match call {
@@ -30,9 +35,14 @@ pub fn answer_store<S: Store + Listing>(store: &mut S, call: StoreCall, answer: 
 }
 
 // file NAME BODY
-fn file<S: Store>(store: &mut S, name: &[u8], body: &[u8], answer: &mut Answer)
-    ensures answer { Adds answer.old answer.new (filed (number_of (S.Store.meaning store.old) (S.Store.room store.old) name.now body.now)) }
-    ensures meaning { S.Store.meaning store.new ≡ (if nat_eq (number_of (S.Store.meaning store.old) (S.Store.room store.old) name.now body.now) 0 then with (S.Store.meaning store.old) name.now body.now else S.Store.meaning store.old) }
+fn file<S: Store>(
+    store: &mut S,
+    name: &[u8],
+    body: &[u8],
+    answer: &mut Answer,
+) -> Result<(), AllocError>
+    ensures answer { OnOk result (answer.new ≡ answer.old ++ filed (not_filed (S.Store.meaning store.old) (S.Store.room store.old) name.now body.now)) }
+    ensures meaning { S.Store.meaning store.new ≡ (if is_some (not_filed (S.Store.meaning store.old) (S.Store.room store.old) name.now body.now) then S.Store.meaning store.old else with (S.Store.meaning store.old) name.now body.now) }
 {
     match store.file(name, body) {
         Ok(()) => answer.line("filed"),
@@ -41,68 +51,68 @@ fn file<S: Store>(store: &mut S, name: &[u8], body: &[u8], answer: &mut Answer)
 }
 
 // get NAME [SIZE]
-fn get<S: Store>(store: &S, name: &[u8], space: usize, answer: &mut Answer)
-    ensures { Adds answer.old answer.new (got (body_of (S.Store.meaning store.now name.now)) (get_answer space name.now (is_some (S.Store.meaning store.now name.now)))) }
+fn get<S: Store>(
+    store: &S,
+    name: &[u8],
+    space: usize,
+    answer: &mut Answer,
+) -> Result<(), AllocError>
+    ensures { OnOk result (answer.new ≡ answer.old ++ got (body_of (S.Store.meaning store.now name.now)) (get_refusal space name.now (is_some (S.Store.meaning store.now name.now)))) }
 {
-    match vec![in answer.heap(); 0; space] {
-        Ok(mut buffer) => show_body(store, name, buffer.as_mut_slice(), answer),
-        Err(_) => answer.run_out(),
-    }
+    let mut buffer = vec![in answer.heap(); 0; space]?;
+    show_body(store, name, buffer.as_mut_slice(), answer)
 }
 
-fn show_body<S: Store>(store: &S, name: &[u8], buffer: &mut [u8], answer: &mut Answer)
-    ensures { Adds answer.old answer.new (got (body_of (S.Store.meaning store.now name.now)) (get_answer (length buffer.old) name.now (is_some (S.Store.meaning store.now name.now)))) }
+fn show_body<S: Store>(
+    store: &S,
+    name: &[u8],
+    buffer: &mut [u8],
+    answer: &mut Answer,
+) -> Result<(), AllocError>
+    ensures { OnOk result (answer.new ≡ answer.old ++ got (body_of (S.Store.meaning store.now name.now)) (get_refusal (length buffer.old) name.now (is_some (S.Store.meaning store.now name.now)))) }
 {
     match store.get(name, buffer) {
         Ok(len) => {
-            answer.text("got ");
-            answer.number(len);
-            answer.text(" ");
-            answer.hex_line(&buffer[0..len]);
+            answer.text("got ")?;
+            answer.number(len)?;
+            answer.text(" ")?;
+            answer.hex_line(&buffer[..len])
         }
         Err(refusal) => answer.refused(u8::from(refusal)),
     }
 }
 
 // text
-pub fn show_text(store: &LineStore, answer: &mut Answer) {
-    answer.text("text ");
-    answer.hex_line(store.text());
+pub fn show_text(store: &LineStore, answer: &mut Answer) -> Result<(), AllocError> {
+    answer.text("text ")?;
+    answer.hex_line(store.text())
 }
 
 // entries
-fn entries<S: Store + Listing>(store: &S, answer: &mut Answer) {
-    match vec![in answer.heap(); 0; BODY_MAX] {
-        Ok(mut body) => show_entries(store, body.as_mut_slice(), answer),
-        Err(_) => answer.run_out(),
-    }
-}
-
-fn show_entries<S: Store + Listing>(store: &S, body: &mut [u8], answer: &mut Answer) {
+fn entries<S: Store + Listing>(store: &S, answer: &mut Answer) -> Result<(), AllocError> {
+    let mut body = vec![in answer.heap(); 0; BODY_MAX]?;
+    let mut name = [0; NAME_MAX];
     for index in 0..usize::MAX {
-        if !show_entry(store, index, body, answer) {
+        let Some(name_len) = store.name_at(index, &mut name) else {
             break;
-        }
+        };
+        show_entry(store, &name[..name_len], body.as_mut_slice(), answer)?;
     }
-    answer.line("end");
+    answer.line("end")
 }
 
-// A line for the entry at `index`; false past the last one.
-fn show_entry<S: Store + Listing>(
+fn show_entry<S: Store>(
     store: &S,
-    index: usize,
+    name: &[u8],
     body: &mut [u8],
     answer: &mut Answer,
-) -> bool {
-    let mut name = [0; NAME_MAX];
-    let Some(name_len) = store.name_at(index, &mut name) else {
-        return false;
-    };
-    answer.text("entry ");
-    answer.raw(&name[0..name_len]);
-    answer.text(" ");
-    if let Ok(len) = store.get(&name[0..name_len], body) {
-        answer.hex_line(&body[0..len]);
+) -> Result<(), AllocError> {
+    answer.text("entry ")?;
+    answer.raw(name)?;
+    answer.text(" ")?;
+    match store.get(name, body) {
+        Ok(len) => answer.hex_line(&body[..len]),
+        // an entry that is listed has a body
+        Err(_) => Ok(()),
     }
-    true
 }

@@ -4,6 +4,7 @@ use language::answer::Answer;
 use language::call::StoreCall;
 use language::verb::Kind;
 use line_store::LineStore;
+use std::alloc::AllocError;
 use table_store::TableStore;
 
 // `language::call::read` refuses the calls that the kind cannot answer, so that none of them comes here.
@@ -11,10 +12,10 @@ pub trait Target {
     // The kind of the open store.
     fn kind(&self) -> Option<Kind>;
 
-    fn answer(&mut self, call: StoreCall, answer: &mut Answer);
+    fn answer(&mut self, call: StoreCall, answer: &mut Answer) -> Result<(), AllocError>;
 
     // text
-    fn show_text(&self, answer: &mut Answer);
+    fn show_text(&self, answer: &mut Answer) -> Result<(), AllocError>;
 }
 
 // Before a store is open.
@@ -26,9 +27,13 @@ impl Target for NoStore {
         None
     }
 
-    fn answer(&mut self, _call: StoreCall, _answer: &mut Answer) {}
+    fn answer(&mut self, _call: StoreCall, _answer: &mut Answer) -> Result<(), AllocError> {
+        Ok(())
+    }
 
-    fn show_text(&self, _answer: &mut Answer) {}
+    fn show_text(&self, _answer: &mut Answer) -> Result<(), AllocError> {
+        Ok(())
+    }
 }
 
 impl<'a> Target for LineStore<'a> {
@@ -36,12 +41,12 @@ impl<'a> Target for LineStore<'a> {
         Some(Kind::Line)
     }
 
-    fn answer(&mut self, call: StoreCall, answer: &mut Answer) {
-        store_calls::answer_store(self, call, answer);
+    fn answer(&mut self, call: StoreCall, answer: &mut Answer) -> Result<(), AllocError> {
+        store_calls::answer_store(self, call, answer)
     }
 
-    fn show_text(&self, answer: &mut Answer) {
-        store_calls::show_text(self, answer);
+    fn show_text(&self, answer: &mut Answer) -> Result<(), AllocError> {
+        store_calls::show_text(self, answer)
     }
 }
 
@@ -50,9 +55,11 @@ impl<'a> Target for TableStore<'a> {
         Some(Kind::Table)
     }
 
-    fn answer(&mut self, call: StoreCall, answer: &mut Answer) {
-        store_calls::answer_store(self, call, answer);
+    fn answer(&mut self, call: StoreCall, answer: &mut Answer) -> Result<(), AllocError> {
+        store_calls::answer_store(self, call, answer)
     }
 
-    fn show_text(&self, _answer: &mut Answer) {}
+    fn show_text(&self, _answer: &mut Answer) -> Result<(), AllocError> {
+        Ok(())
+    }
 }

@@ -3,5 +3,7 @@ pub mod Scripts
 pub mod Numbers
 pub mod Spelling
 pub mod Names
+pub mod Messages
 pub mod Wording
+pub mod Calls
 pub mod Writing

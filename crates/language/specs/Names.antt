@@ -1,7 +1,7 @@
 -- The names of the calls, and of the kinds of stores.
-use Rattle.std.specs.Prelude.{ℕ, List, Some, None, codes, Option}
+use Rattle.std.specs.Prelude.{◌≡◌, ◌≢◌, ℕ, List, Some, None, Ok, Err, codes, Option, Result}
 use Rattle.language.specs.declared.mistake.Mistake.{Mistake}
-use Rattle.language.specs.declared.mistake.Mistake.TheVariants.{NoStore, NoText}
+use Rattle.language.specs.declared.mistake.Mistake.TheVariants.{UnknownCall, UnknownStore, NoStore, NoText}
 use Rattle.language.specs.declared.verb.Verb.{Verb}
 use Rattle.language.specs.declared.verb.Verb.TheVariants.{Open, File, Get, Has, Fits, Entries, Text, Hash, Key, Sign, Check}
 use Rattle.language.specs.declared.verb.Kind.{Kind}
@@ -23,6 +23,16 @@ name_of Check = codes "check"
 abbrev pub kind_name : Kind → List ℕ
 kind_name Line = codes "line"
 kind_name Table = codes "table"
+
+-- the call of this name, or the mistake that no call has it
+abbrev pub VerbNamed : List ℕ → Result Verb Mistake → Type 0
+VerbNamed w (Ok v) = w ≡ name_of v
+VerbNamed w (Err m) = (m ≡ UnknownCall) × ((v : Verb) → w ≢ name_of v)
+
+-- the kind of store of this name, or the mistake that none has it
+abbrev pub KindNamed : List ℕ → Result Kind Mistake → Type 0
+KindNamed w (Ok k) = w ≡ kind_name k
+KindNamed w (Err m) = (m ≡ UnknownStore) × ((k : Kind) → w ≢ kind_name k)
 
 -- why a call that goes to a store, or for its text, cannot be made, whatever its words are
 abbrev pub store_call : Option Kind → Option Mistake

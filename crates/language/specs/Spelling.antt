@@ -22,3 +22,7 @@ abbrev pub Gives : {A : Type 0} → Option (List ℕ) → Result (Vec ℕ A) Tro
 Gives bytes (Ok v) = bytes ≡ Some (vec_items v)
 Gives bytes (Err (Script m)) = (m ≡ NotHexadecimal) × (bytes ≡ None)
 Gives bytes (Err (Memory e)) = Unit {0}
+
+-- the bytes that a word stands for
+abbrev pub IsSpelling : {A : Type 0} → List ℕ → Result (Vec ℕ A) Trouble → Type 0
+IsSpelling w r = Gives (meant w) r

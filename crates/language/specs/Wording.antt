@@ -1,47 +1,45 @@
 -- The words of a line that are still to come.
-use Rattle.std.specs.Prelude.{◌≡◌, ℕ, ◌+◌, Bool, cond, List, [], length, drop, Some, None, Option, nat_le}
-use Rattle.octets.specs.Search.{up_to}
-use Rattle.language.specs.declared.mistake.Mistake.TheVariants.{EmptyWord, MissingWord, ExtraWord, NotANumber}
-use Rattle.language.specs.declared.mistake.Trouble.{Trouble}
-use Rattle.language.specs.declared.mistake.Trouble.TheVariants.{Script}
-use Rattle.language.specs.declared.words.Words.{Words}
-use Rattle.language.specs.Cuts.{before}
+use Rattle.std.specs.Prelude.{◌≡◌, ℕ, cond, ◌==◌, List, [], ◌∷◌, Some, None, Ok, Err, Option, Result}
+use denote.Ref.{Bor}
+use Rattle.language.specs.declared.mistake.Mistake.{Mistake}
+use Rattle.language.specs.declared.mistake.Mistake.TheVariants.{EmptyWord, MissingWord, NotANumber}
+use Rattle.language.specs.Numbers.{number_in}
 
--- a word is still to come
-abbrev pub is_left : Words → Bool
-is_left s = nat_le s.at (length s.line.now)
+-- a byte more at the start of the first word
+abbrev pub longer : ℕ → List (List ℕ) → List (List ℕ)
+longer x [] = (x ∷ []) ∷ []
+longer x (w ∷ ws) = (x ∷ w) ∷ ws
 
--- the next word; no bytes where none is left
-abbrev pub next_word : Words → List ℕ
-next_word s = cond (is_left s) (before 0x20 (drop s.at s.line.now)) []
+-- the words of a text: it is cut at each space, so that two spaces have a word of no bytes between them
+abbrev pub words_in : List ℕ → List (List ℕ)
+words_in [] = [] ∷ []
+words_in (x ∷ t) = cond (x == 0x20) ([] ∷ words_in t) (longer x (words_in t))
 
--- where the words behind the next one begin
-abbrev pub next_at : Words → ℕ
-next_at s = cond (is_left s) (s.at + up_to 0x20 (drop s.at s.line.now) + 1) s.at
+-- the words of a text, and none where there is no text
+abbrev pub words_of : Option (Bor (List ℕ)) → List (List ℕ)
+words_of None = []
+words_of (Some t) = words_in t.now
 
--- the first trouble is kept
-abbrev pub earlier : Option Trouble → Option Trouble → Option Trouble
-earlier (Some t) u = Some t
-earlier None u = u
+-- what is read of the first of some words: that it is missing, that it has no bytes, or what `read` says of it
+abbrev pub Reads : {A E : Type 0} → (Mistake → E) → List (List ℕ) → (List ℕ → Result A E → Type 0) → Result A E → Type 0
+Reads error [] read r = r ≡ Err (error MissingWord)
+Reads error ([] ∷ ws) read r = r ≡ Err (error EmptyWord)
+Reads error ((x ∷ w) ∷ ws) read r = read (x ∷ w) r
 
--- what is troublesome in the next word: that it is missing, or has no bytes
-abbrev pub word_trouble : Words → Option Trouble
-word_trouble s = cond (is_left s) (cond (nat_le 1 (length (next_word s))) None (Some (Script EmptyWord))) (Some (Script MissingWord))
+-- the word itself
+abbrev pub IsWord : List ℕ → Result (Bor (List ℕ)) Mistake → Type 0
+IsWord w (Ok v) = v.now ≡ w
+IsWord w (Err m) = ⊥
 
--- what is troublesome in a word that should be a number
-abbrev pub number_trouble : Option ℕ → Option Trouble
-number_trouble (Some n) = None
-number_trouble None = Some (Script NotANumber)
+-- the number that the word is
+abbrev pub number_or : Option ℕ → Result ℕ Mistake
+number_or (Some n) = Ok n
+number_or None = Err NotANumber
 
--- the trouble that a line ends with: the first one, or a word that is left
-abbrev pub end_trouble : Words → Option Trouble
-end_trouble s = earlier s.trouble (cond (is_left s) (Some (Script ExtraWord)) None)
+abbrev pub IsNumber : List ℕ → Result ℕ Mistake → Type 0
+IsNumber w r = r ≡ number_or (number_in w)
 
--- one word was taken off the line
-pub record Takes (old new : Words) : Type 0 where
-  pub line_is : new.line.now ≡ old.line.now
-  pub at_is : new.at ≡ next_at old
-
--- where there is no trouble now, there was none before, and what was read is as it is said
-pub record Reads (old new : Words) (Good : Type 0) : Type 0 where
-  pub unless_trouble : new.trouble ≡ None → (old.trouble ≡ None) × Good
+abbrev pub IsSomeNumber : List ℕ → Result (Option ℕ) Mistake → Type 0
+IsSomeNumber w (Ok None) = ⊥
+IsSomeNumber w (Ok (Some n)) = IsNumber w (Ok n)
+IsSomeNumber w (Err m) = IsNumber w (Err m)

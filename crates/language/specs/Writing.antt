@@ -1,13 +1,10 @@
 -- What a call writes behind an answer.
-use Rattle.std.specs.Prelude.{◌≡◌, ℕ, Bool, true, false, cond, List, [], ◌∷◌, ◌++◌, vec_items, codes, decimal}
+use Rattle.std.specs.Prelude.{◌≡◌, ℕ, Bool, cond, List, [], ◌∷◌, ◌++◌, codes, decimal, Result, OnOk, IsErrOf}
+use Rattle.std.specs.declared.alloc.AllocError.{AllocError}
 use Rattle.octets.specs.Hex.{hex}
-use Rattle.language.specs.declared.answer.Answer.{Answer}
+use Rattle.language.specs.Messages.{message_of}
 use Rattle.language.specs.declared.mistake.Trouble.{Trouble}
 use Rattle.language.specs.declared.mistake.Trouble.TheVariants.{Script, Memory}
-
--- the bytes stand behind those that were there, unless memory ran out now or earlier
-pub record Adds (old new : Answer) (bytes : List ℕ) : Type 0 where
-  pub unless_full : new.full ≡ false → (old.full ≡ false) × (vec_items new.bytes ≡ vec_items old.bytes ++ bytes)
 
 -- a text, and a line feed
 abbrev pub line_of : List ℕ → List ℕ
@@ -22,7 +19,7 @@ refusal n = codes "refused " ++ line_of (decimal n)
 abbrev pub coded : List ℕ → List ℕ
 coded bytes = codes "x:" ++ line_of (hex bytes)
 
--- a mistake is told with the number of its line, and some message; want of memory marks the answer
-abbrev pub Tells : Answer → Answer → ℕ → Trouble → Type 0
-Tells old new number (Script m) = (message : List ℕ) × Adds old new (codes "line " ++ (decimal number ++ (codes ": " ++ line_of message)))
-Tells old new number (Memory e) = new.full ≡ true
+-- a mistake is told with the number of its line and its message; want of memory is handed on
+abbrev pub Tells : List ℕ → List ℕ → ℕ → Trouble → Result (Unit {0}) AllocError → Type 0
+Tells old new number (Script m) r = OnOk r (new ≡ old ++ (codes "line " ++ (decimal number ++ (codes ": " ++ line_of (message_of m)))))
+Tells old new number (Memory e) r = IsErrOf r e

@@ -1,28 +1,37 @@
 // The text of an answer.
-ghost use Rattle.std.specs.Prelude.{◌≡◌, true, false, [], IfOk, decimal, MatchResult};
+ghost use Rattle.std.specs.Prelude.{◌≡◌, [], ◌++◌, OnOk, IfOk, decimal};
 ghost use Rattle.octets.specs.Hex.{hex as hex_of};
-ghost use Rattle.language.specs.Writing.{Adds, Tells, line_of, yes_or_no, refusal, coded};
+ghost use Rattle.language.specs.Writing.{Tells, line_of, yes_or_no, refusal, coded};
 
 use crate::mistake::Trouble;
 use octets::hex;
 use std::alloc::{AllocError, Global};
+use std::marker::Model;
 
-// What was written so far. Where memory runs out the rest is left out, and `finish` says so.
+// What was written so far. Each writer sets its bytes behind those that are there, unless memory
+// runs out: then some of them may be missing, and the answer is of no use.
 #[derive(Drop)]
 pub struct Answer {
     heap: Global,
     bytes: Vec<u8>,
-    full: bool,
+}
+
+// A contract sees an answer as its bytes.
+impl Model for Answer {
+    ghost use Rattle.std.specs.Prelude.{ℕ, List};
+
+    ghost Value = { List ℕ };
+
+    ghost view = { λ a. a.bytes.items };
 }
 
 impl Answer {
     pub fn new(heap: Global) -> Answer
-        ensures { (result.full ≡ false) × (result.bytes.items ≡ []) }
+        ensures { result ≡ [] }
     {
         Answer {
             heap,
             bytes: Vec::new(heap),
-            full: false,
         }
     }
 
@@ -31,106 +40,86 @@ impl Answer {
         self.heap
     }
 
-    // Memory ran out for what was to be written.
-    pub fn run_out(&mut self)
-        ensures { self.new.full ≡ true }
+    // The whole text.
+    pub fn finish(&self) -> &[u8]
+        ensures { result.now ≡ self.now }
     {
-        self.full = true;
+        self.bytes.as_slice()
     }
 
-    // The whole text, unless memory ran out.
-    pub fn finish(&self) -> Result<&[u8], AllocError>
-        ensures { MatchResult result (λ t. (self.now.full ≡ false) × (t.now ≡ self.now.bytes.items)) (λ _. self.now.full ≡ true) }
+    pub fn raw(&mut self, bytes: &[u8]) -> Result<(), AllocError>
+        ensures { OnOk result (self.new ≡ self.old ++ bytes.now) }
     {
-        if self.full {
-            Err(AllocError)
-        } else {
-            Ok(self.bytes.as_slice())
-        }
+        self.bytes.extend_from_slice(bytes)
     }
 
-    pub fn raw(&mut self, bytes: &[u8])
-        ensures { Adds self.old self.new bytes.now }
+    pub fn text(&mut self, text: &str) -> Result<(), AllocError>
+        ensures { OnOk result (self.new ≡ self.old ++ text.now) }
     {
-        if self.bytes.extend_from_slice(bytes).is_err() {
-            self.full = true;
-        }
+        self.raw(text.as_bytes())
     }
 
-    pub fn text(&mut self, text: &str)
-        ensures { Adds self.old self.new text.now }
+    pub fn line(&mut self, text: &str) -> Result<(), AllocError>
+        ensures { OnOk result (self.new ≡ self.old ++ line_of text.now) }
     {
-        self.raw(text.as_bytes());
+        self.text(text)?;
+        self.text("\n")
     }
 
-    pub fn line(&mut self, text: &str)
-        ensures { Adds self.old self.new (line_of text.now) }
+    pub fn yes_or_no(&mut self, yes: bool) -> Result<(), AllocError>
+        ensures { OnOk result (self.new ≡ self.old ++ yes_or_no yes) }
     {
-        self.text(text);
-        self.text("\n");
+        self.line(if yes { "yes" } else { "no" })
     }
 
-    pub fn yes_or_no(&mut self, yes: bool)
-        ensures { Adds self.old self.new (yes_or_no yes) }
+    pub fn number(&mut self, n: usize) -> Result<(), AllocError>
+        ensures { OnOk result (self.new ≡ self.old ++ decimal n) }
     {
-        self.line(if yes { "yes" } else { "no" });
+        let digits = format!(in self.heap; "{n}")?;
+        self.text(digits.as_str())
     }
 
-    pub fn number(&mut self, n: usize)
-        ensures { Adds self.old self.new (decimal n) }
+    pub fn refused(&mut self, number: u8) -> Result<(), AllocError>
+        ensures { OnOk result (self.new ≡ self.old ++ refusal number) }
     {
-        match format!(in self.heap; "{n}") {
-            Ok(digits) => self.text(digits.as_str()),
-            Err(_) => self.full = true,
-        }
-    }
-
-    pub fn refused(&mut self, number: u8)
-        ensures { Adds self.old self.new (refusal number) }
-    {
-        self.text("refused ");
-        self.number(number as usize);
-        self.text("\n");
+        let line = format!(in self.heap; "refused {number}\n")?;
+        self.text(line.as_str())
     }
 
     // Why the line of this number is not answered.
-    pub fn trouble(&mut self, line_number: usize, trouble: Trouble)
-        ensures { Tells self.old self.new line_number trouble }
+    pub fn trouble(&mut self, line_number: usize, trouble: Trouble) -> Result<(), AllocError>
+        ensures { Tells self.old self.new line_number trouble result }
     {
         match trouble {
             Trouble::Script(mistake) => {
-                self.text("line ");
-                self.number(line_number);
-                self.text(": ");
-                self.line(mistake.message());
+                let line = format!(in self.heap; "line {line_number}: {mistake}\n")?;
+                self.text(line.as_str())
             }
-            Trouble::Memory(_) => self.full = true,
+            Trouble::Memory(error) => Err(error),
         }
     }
 
-    fn digits(&mut self, bytes: &[u8])
-        ensures { Adds self.old self.new (hex_of bytes.now) }
+    fn digits(&mut self, bytes: &[u8]) -> Result<(), AllocError>
+        ensures { OnOk result (self.new ≡ self.old ++ hex_of bytes.now) }
     {
-        match digits_of(self.heap, bytes) {
-            Ok(digits) => self.raw(digits.as_slice()),
-            Err(_) => self.full = true,
-        }
+        let digits = digits_of(self.heap, bytes)?;
+        self.raw(digits.as_slice())
     }
 
     // The digits of the bytes, as the end of a line.
-    pub fn digits_line(&mut self, bytes: &[u8])
-        ensures { Adds self.old self.new (line_of (hex_of bytes.now)) }
+    pub fn digits_line(&mut self, bytes: &[u8]) -> Result<(), AllocError>
+        ensures { OnOk result (self.new ≡ self.old ++ line_of (hex_of bytes.now)) }
     {
-        self.digits(bytes);
-        self.text("\n");
+        self.digits(bytes)?;
+        self.text("\n")
     }
 
     // The bytes as the last word of a line: `x:` and their digits.
-    pub fn hex_line(&mut self, bytes: &[u8])
-        ensures { Adds self.old self.new (coded bytes.now) }
+    pub fn hex_line(&mut self, bytes: &[u8]) -> Result<(), AllocError>
+        ensures { OnOk result (self.new ≡ self.old ++ coded bytes.now) }
     {
-        self.text("x:");
-        self.digits_line(bytes);
+        self.text("x:")?;
+        self.digits_line(bytes)
     }
 }
 

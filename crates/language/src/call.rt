@@ -1,5 +1,7 @@
 // The calls of a script, with what their words stand for.
-ghost use Rattle.std.specs.Prelude.{◌≡◌};
+ghost use Rattle.std.specs.Prelude.{◌≡◌, true, IfOk, Ok};
+ghost use Rattle.std.specs.Result.{result_err};
+ghost use Rattle.language.specs.Calls.{HasVerb, Makes, is_note, StandsFor, arguments, open_arguments};
 ghost use Rattle.language.specs.Names.{barred};
 
 use crate::mistake::{Mistake, Trouble};
@@ -11,14 +13,7 @@ use std::alloc::Global;
 pub enum Call {
     // an empty line, or a comment
     Nothing,
-    OpenLine {
-        size: usize,
-        text: Vec<u8>,
-    },
-    OpenTable {
-        rows: usize,
-        bytes: usize,
-    },
+    Open(OpenCall),
     Hash {
         message: Vec<u8>,
     },
@@ -31,6 +26,13 @@ pub enum Call {
     Check(CheckCall),
     Text,
     Store(StoreCall),
+}
+
+// What is opened.
+#[derive(Drop)]
+pub enum OpenCall {
+    Line { size: usize, text: Vec<u8> },
+    Table { rows: usize, bytes: usize },
 }
 
 // What a key is made from.
@@ -64,92 +66,104 @@ pub enum StoreCall {
 }
 
 // The call that a line makes while a store of this kind, or none, is open.
-pub fn read(heap: Global, line: &[u8], kind: Option<Kind>) -> Result<Call, Trouble> {
+pub fn read(heap: Global, line: &[u8], kind: Option<Kind>) -> Result<Call, Trouble>
+    ensures call { IfOk result (Makes kind line.now) }
+    ensures note { is_note line.now ≡ true → result ≡ Ok Call.Nothing }
+{
     if let [] | [b'#', ..] = line {
         return Ok(Call::Nothing);
     }
     let mut words = Words::new(heap, line);
     let verb = words.verb()?;
-    match refused(verb, kind) {
-        Some(mistake) => Err(Trouble::Script(mistake)),
-        None => whole(verb, &mut words),
-    }
+    allowed(verb, kind)?;
+    let call = asked(verb, &mut words)?;
+    words.end()?;
+    Ok(call)
 }
 
-// Why a call cannot be made whatever its words are: it goes to a store that is not open or has no text.
-fn refused(verb: Verb, kind: Option<Kind>) -> Option<Mistake>
-    ensures { result ≡ barred verb kind }
+// Whether a call can be made, whatever its words are: one that goes to a store needs a store, and a
+// text is only a line store's.
+fn allowed(verb: Verb, kind: Option<Kind>) -> Result<(), Mistake>
+    ensures { result_err result ≡ barred verb kind }
 {
     match (verb, kind) {
-        (Verb::Open | Verb::Hash | Verb::Key | Verb::Sign | Verb::Check, _) => None,
-        (_, None) => Some(Mistake::NoStore),
-        (Verb::Text, Some(Kind::Table)) => Some(Mistake::NoText),
-        _ => None,
+        (Verb::Open | Verb::Hash | Verb::Key | Verb::Sign | Verb::Check, _) => Ok(()),
+        (_, None) => Err(Mistake::NoStore),
+        (Verb::Text, Some(Kind::Table)) => Err(Mistake::NoText),
+        _ => Ok(()),
     }
 }
 
-fn whole(verb: Verb, words: &mut Words) -> Result<Call, Trouble> {
-    let call = begun(verb, words);
-    match words.end() {
-        Ok(()) => Ok(call),
-        Err(trouble) => Err(trouble),
-    }
-}
-
-// Takes the words that the call wants.
-fn begun(verb: Verb, words: &mut Words) -> Call {
-    match verb {
-        Verb::Open => opening(words),
+// The call of this name, with what the words behind the name stand for.
+fn asked(verb: Verb, words: &mut Words) -> Result<Call, Trouble>
+    ensures { IfOk result (λ call. HasVerb call verb × StandsFor (arguments call) words.old words.new) }
+{
+    Ok(match verb {
+        Verb::Open => Call::Open(open(words)?),
         Verb::Hash => Call::Hash {
-            message: words.bytes(),
+            message: words.bytes()?,
         },
-        Verb::Key => Call::Key(KeyCall {
-            id: words.bytes(),
-            keytype: words.bytes(),
-            number: words.number(),
-            identifier: words.bytes(),
-            seed: words.bytes(),
-        }),
+        Verb::Key => Call::Key(key(words)?),
         Verb::Sign => Call::Sign {
-            id: words.bytes(),
-            leaf: words.number(),
-            message: words.bytes(),
+            id: words.bytes()?,
+            leaf: words.number()?,
+            message: words.bytes()?,
         },
-        Verb::Check => Call::Check(CheckCall {
-            keytype: words.bytes(),
-            public: words.bytes(),
-            message: words.bytes(),
-            signature: words.bytes(),
-        }),
+        Verb::Check => Call::Check(check(words)?),
         Verb::Text => Call::Text,
         Verb::File => Call::Store(StoreCall::File {
-            name: words.bytes(),
-            body: words.bytes(),
+            name: words.bytes()?,
+            body: words.bytes()?,
         }),
         Verb::Get => Call::Store(StoreCall::Get {
-            name: words.bytes(),
-            space: words.number_if_any(),
+            name: words.bytes()?,
+            space: words.number_if_any()?,
         }),
         Verb::Has => Call::Store(StoreCall::Has {
-            name: words.bytes(),
+            name: words.bytes()?,
         }),
         Verb::Fits => Call::Store(StoreCall::Fits {
-            name_len: words.number(),
-            body_len: words.number(),
+            name_len: words.number()?,
+            body_len: words.number()?,
         }),
         Verb::Entries => Call::Store(StoreCall::Entries),
-    }
+    })
 }
 
-fn opening(words: &mut Words) -> Call {
-    match words.kind() {
-        Kind::Line => Call::OpenLine {
-            size: words.number(),
-            text: words.bytes_if_any(),
+fn open(words: &mut Words) -> Result<OpenCall, Trouble>
+    ensures { IfOk result (λ call. StandsFor (open_arguments call) words.old words.new) }
+{
+    Ok(match words.kind()? {
+        Kind::Line => OpenCall::Line {
+            size: words.number()?,
+            text: words.bytes_if_any()?,
         },
-        Kind::Table => Call::OpenTable {
-            rows: words.number(),
-            bytes: words.number(),
+        Kind::Table => OpenCall::Table {
+            rows: words.number()?,
+            bytes: words.number()?,
         },
-    }
+    })
+}
+
+fn key(words: &mut Words) -> Result<KeyCall, Trouble>
+    ensures { IfOk result (λ call. StandsFor (arguments (Call.Key call)) words.old words.new) }
+{
+    Ok(KeyCall {
+        id: words.bytes()?,
+        keytype: words.bytes()?,
+        number: words.number()?,
+        identifier: words.bytes()?,
+        seed: words.bytes()?,
+    })
+}
+
+fn check(words: &mut Words) -> Result<CheckCall, Trouble>
+    ensures { IfOk result (λ call. StandsFor (arguments (Call.Check call)) words.old words.new) }
+{
+    Ok(CheckCall {
+        keytype: words.bytes()?,
+        public: words.bytes()?,
+        message: words.bytes()?,
+        signature: words.bytes()?,
+    })
 }

@@ -1,8 +1,14 @@
 // What keeps a line of a script from being answered.
-use std::alloc::AllocError;
+ghost use Rattle.std.specs.Prelude.{◌≡◌, Some, alloc_error};
+ghost use Rattle.language.specs.Messages.{message_of};
+ghost use Rattle.language.specs.declared.mistake.Trouble.TheVariants.{Script, Memory};
+
+use std::alloc::{AllocError, AllocFailed};
+use std::error::Error;
+use std::fmt;
 
 // Why a line is no call that can be made.
-#[derive(Clone, Copy)]
+#[derive(Clone, Copy, Debug, PartialEq, Eq)]
 pub enum Mistake {
     UnknownCall,
     MissingWord,
@@ -19,7 +25,9 @@ pub enum Mistake {
 }
 
 impl Mistake {
-    pub fn message(self) -> &'static str {
+    fn message(self) -> &'static str
+        ensures { result.now ≡ message_of self }
+    {
         match self {
             Mistake::UnknownCall => "there is no such call",
             Mistake::MissingWord => "a word is missing",
@@ -38,9 +46,43 @@ impl Mistake {
     }
 }
 
+impl fmt::Display for Mistake {
+    ghost output = { λ m. Some (message_of m) };
+
+    fn fmt<W: fmt::Write>(&self, f: &mut fmt::Formatter<W>) -> fmt::Result {
+        f.write_str(self.message())
+    }
+}
+
+impl Error for Mistake {}
+
 // A mistake in the script, or want of memory.
-#[derive(Clone, Copy)]
+#[derive(Clone, Copy, Debug, PartialEq, Eq)]
 pub enum Trouble {
     Script(Mistake),
     Memory(AllocError),
+}
+
+impl From<Mistake> for Trouble {
+    ghost from_gives = { λ m t. t ≡ Script m };
+
+    fn from(mistake: Mistake) -> Trouble {
+        Trouble::Script(mistake)
+    }
+}
+
+impl From<AllocError> for Trouble {
+    ghost from_gives = { λ e t. t ≡ Memory e };
+
+    fn from(error: AllocError) -> Trouble {
+        Trouble::Memory(error)
+    }
+}
+
+impl<T: Drop> From<AllocFailed<T>> for Trouble {
+    ghost from_gives = { λ _ t. t ≡ Memory alloc_error };
+
+    fn from(failed: AllocFailed<T>) -> Trouble {
+        Trouble::Memory(failed.into())
+    }
 }

@@ -1,8 +1,10 @@
 // The names of the calls, and of the kinds of stores.
-ghost use Rattle.std.specs.Prelude.{◌≡◌, MatchOption, ◌≢◌};
-ghost use Rattle.language.specs.Names.{name_of, kind_name};
+ghost use Rattle.std.specs.Prelude.{◌≡◌};
+ghost use Rattle.language.specs.Names.{name_of, kind_name, VerbNamed, KindNamed};
 
-#[derive(Clone, Copy)]
+use crate::mistake::Mistake;
+
+#[derive(Clone, Copy, Debug, PartialEq, Eq)]
 pub enum Verb {
     Open,
     File,
@@ -52,33 +54,39 @@ const VERBS: [Verb; 11] = [
 ];
 
 // The call of this name.
-pub fn verb_of(word: &[u8]) -> Option<Verb>
-    ensures { MatchOption result ((v : Verb) → word.now ≢ name_of v) (λ v. word.now ≡ name_of v) }
-{
-    for verb in VERBS {
-        if word == verb.name() {
-            return Some(verb);
+impl TryFrom<&[u8]> for Verb {
+    type Error = Mistake;
+
+    ghost try_from_gives = { λ word r. VerbNamed word.now r };
+
+    fn try_from(word: &[u8]) -> Result<Verb, Mistake> {
+        for verb in VERBS {
+            if word == verb.name() {
+                return Ok(verb);
+            }
         }
+        Err(Mistake::UnknownCall)
     }
-    None
 }
 
 // What `open` can open.
-#[derive(Clone, Copy)]
+#[derive(Clone, Copy, Debug, PartialEq, Eq)]
 pub enum Kind {
     Line,
     Table,
 }
 
 // The kind of this name.
-pub fn kind_of(word: &[u8]) -> Option<Kind>
-    ensures { MatchOption result ((k : Kind) → word.now ≢ kind_name k) (λ k. word.now ≡ kind_name k) }
-{
-    if word == b"line".as_slice() {
-        Some(Kind::Line)
-    } else if word == b"table".as_slice() {
-        Some(Kind::Table)
-    } else {
-        None
+impl TryFrom<&[u8]> for Kind {
+    type Error = Mistake;
+
+    ghost try_from_gives = { λ word r. KindNamed word.now r };
+
+    fn try_from(word: &[u8]) -> Result<Kind, Mistake> {
+        match word {
+            b"line" => Ok(Kind::Line),
+            b"table" => Ok(Kind::Table),
+            _ => Err(Mistake::UnknownStore),
+        }
     }
 }

@@ -2,5 +2,5 @@ use Rattle.std.proofs.Common.{◌≡◌, ◌^◌, ◌<◌, drop}
 use Rattle.language.specs.Numbers.{number_from, number_in}
 use Rattle.language.proofs.words.number_of.Given as goal
 
-abbrev pub invariant-loop-b : goal.invariant-loop-b
-invariant-loop-b l = (number_from l.n (drop l.b-index l.word) ≡ number_in l.word) × (l.n < 2 ^ 64)
+abbrev pub invariant-loop-digit : goal.invariant-loop-digit
+invariant-loop-digit l = (number_from l.n (drop l.digit-index l.word) ≡ number_in l.word) × (l.n < 2 ^ 64)
