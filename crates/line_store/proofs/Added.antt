@@ -1,13 +1,13 @@
 -- A line written behind a text, and a body read out of one.
-use Rattle.std.proofs.Common.{◌≡◌, ℕ, ◌+◌, ◌*◌, ◌/◌, ◌<◌, ◌≤◌, true, List, [], ◌∷◌, ◌++◌, length, take, drop, set, is_some, Some, None, Option, sym, refl, ap, ◌∙◌, arith}
+use Rattle.std.proofs.Common.{◌≡◌, ℕ, ◌+◌, ◌*◌, ◌/◌, ◌≤◌, ◌-◌, true, List, [], ◌∷◌, ◌++◌, length, take, drop, is_some, Some, None, Option, sym, refl, ap, ◌∙◌, arith}
 use borrow.Rule.Slice.PartMut.{put_mid}
-use Rattle.std.proofs.lemmas.List.{length-drop, length-append, length-take-le, append_assoc, take_at, take_all}
+use Rattle.std.proofs.lemmas.List.{length-drop, length-append, length-take-le, append_assoc, append-nil, take_at, take_all, drop_at, drop_all, drop-drop}
 use Rattle.std.proofs.lemmas.Bool.{and_from, le-leb, both_ways}
 use Rattle.std.specs.Option.{option_map}
 use Rattle.octets.specs.Buffers.{over, are_bytes}
 use Rattle.octets.specs.Hex.{hex, unhex}
-use Rattle.octets.proofs.Hexed.{length-hex, unhex-hex, hex_fills}
-use Rattle.octets.proofs.Overs.{over_put, over-set}
+use Rattle.octets.proofs.Hexed.{length-hex, unhex-hex}
+use Rattle.octets.proofs.Overs.{over-take, length_over}
 use Rattle.store.specs.Meanings.{is_name, with, body_of}
 use Rattle.store.specs.Entries.{Entry, look_up, sound}
 use Rattle.store.proofs.Looking.{sound_push, look_push, body_is}
@@ -18,44 +18,30 @@ pub line_long : (n b : List ℕ) → length (line_then (n, b) []) ≡ 2 * (lengt
 line_long n b =
     length-append (hex n) (0x20 ∷ (hex b ++ 0x0a ∷ [])) ∙ (omega (arith, length-hex n, length-hex b, length-append (hex b) (0x0a ∷ [])))
 
--- a buffer after hexadecimal text is written behind what was written
-pub hex_put : (t out bs : List ℕ) (at k : ℕ) → out ≡ over (hex (take (length (take k (drop at t)) / 2) bs)) (take k (drop at t)) → k ≡ 2 * length bs → at + k ≤ length t
-    → (done old : List ℕ) → length done ≡ at → t ≡ over done old → put_mid at k t out ≡ over (done ++ hex bs) old
-hex_put t out bs at k e ek h done old l d =
-    let part : length (take k (drop at t)) ≡ k = length-take-le k (drop at t) (omega (arith, length-drop at t)) in
-    let full : out ≡ hex bs = e ∙ hex_fills (take k (drop at t)) bs (omega arith) in
-    ap (λ z. put_mid at k t z) full ∙ ap (λ z. put_mid at k z (hex bs)) d ∙ over_put done (hex bs) old at k l (ek ∙ sym (length-hex bs))
+-- a part is written behind what was written
+pub over_behind : (u done part old out : List ℕ) (at k : ℕ) → u ≡ over done old → length done ≡ at → at ≤ length old → k ≡ length u - at → out ≡ over part (take k (drop at u)) → put_mid at k u out ≡ over (done ++ part) old
+over_behind u done part old out at k eu l h ek e =
+    let rest = drop (length done) old in
+    let lr = length-drop (length done) old in
+    let lu : length u ≡ length old = ap length eu ∙ length_over done old (omega arith) in
+    let back : drop at u ≡ rest = ap (drop at) eu ∙ drop_at done rest at l in
+    let whole : take k (drop at u) ≡ rest = ap (take k) back ∙ take_all k rest (omega arith) in
+    let none : drop k (drop at u) ≡ [] = ap (drop k) back ∙ drop_all k rest (omega arith) in
+    let new : out ≡ part ++ drop (length (done ++ part)) old =
+    e ∙ ap (over part) whole ∙ ap (λ z. part ++ z) (drop-drop (length part) (length done) old ∙ ap (λ z. drop z old) (omega (arith, length-append done part))) in
+    ap (λ z. z ++ (out ++ drop k (drop at u))) (ap (take at) eu ∙ take_at done rest at l) ∙ ap (λ z. done ++ (out ++ z)) none ∙ ap (λ z. done ++ z) (append-nil out ∙ new)
+    ∙ sym (append_assoc done part (drop (length (done ++ part)) old))
 
--- a buffer once the parts of a line are written, one behind the other
-module _ (t name body : List ℕ) (at space start feed : ℕ) (fits : feed < length t) (em : space ≡ at + 2 * length name) (es : start ≡ space + 1) (ee : feed ≡ start + 2 * length body) where
-  pub at_long : length (take at t) ≡ at
-  at_long = length-take-le at t (omega arith)
+-- a buffer once a line is written behind the text, and the text with it
+module _ (t out name body : List ℕ) (at long : ℕ) (h : at ≤ length t) (el : long ≡ 2 * (length name + length body) + 2) (w : out ≡ over (line_then (name, body) []) (take (length t - at) (drop at t))) where
+  line_behind : put_mid at (length t - at) t out ≡ over (take at t ++ line_then (name, body) []) t
+  line_behind = over_behind t (take at t) (line_then (name, body) []) t out at (length t - at) (over-take at t h) (length-take-le at t h) h refl w
 
-  pub name_put_long : length ((take at t) ++ hex name) ≡ space
-  name_put_long = length-append (take at t) (hex name) ∙ (omega (arith, at_long, length-hex name))
-
-  pub space_put_long : length ((take at t ++ hex name) ++ 0x20 ∷ []) ≡ start
-  space_put_long = length-append (take at t ++ hex name) (0x20 ∷ []) ∙ (omega (arith, name_put_long))
-
-  body_put_long : length (((take at t ++ hex name) ++ 0x20 ∷ []) ++ hex body) ≡ feed
-  body_put_long = length-append ((take at t ++ hex name) ++ 0x20 ∷ []) (hex body) ∙ (omega (arith, space_put_long, length-hex body))
-
-  pub space_written : (u : List ℕ) → u ≡ over (take at t ++ hex name) t → set u space 0x20 ≡ over ((take at t ++ hex name) ++ 0x20 ∷ []) t
-  space_written u e = ap (λ z. set z space 0x20) e ∙ over-set (take at t ++ hex name) t space 0x20 name_put_long (omega arith)
-
-  pub line_written : (u : List ℕ) → u ≡ over (((take at t ++ hex name) ++ 0x20 ∷ []) ++ hex body) t → set u feed 0x0a ≡ over (take at t ++ line_then (name, body) []) t
-  line_written u e =
-      ap (λ z. set z feed 0x0a) e ∙ over-set (((take at t ++ hex name) ++ 0x20 ∷ []) ++ hex body) t feed 0x0a body_put_long fits
-      ∙ ap (λ z. over z t) (append_assoc ((take at t ++ hex name) ++ 0x20 ∷ []) (hex body) (0x0a ∷ []) ∙ append_assoc (take at t ++ hex name) (0x20 ∷ []) (hex body ++ 0x0a ∷ [])
-      ∙ append_assoc (take at t) (hex name) (0x20 ∷ (hex body ++ 0x0a ∷ [])))
-
--- the text once a line is behind it
-pub text_grown : (t out name body : List ℕ) (at end : ℕ) → at ≤ length t → end ≡ at + (2 * (length name + length body) + 2)
-    → out ≡ over (take at t ++ line_then (name, body) []) t → take end out ≡ take at t ++ line_then (name, body) []
-text_grown t out name body at end h e w =
-    let p = take at t ++ line_then (name, body) [] in
-    let l : length p ≡ end = length-append (take at t) (line_then (name, body) []) ∙ (omega (arith, length-take-le at t h, line_long name body)) in
-    ap (take end) w ∙ take_at p (drop (length p) t) end l
+  pub text_grown : take (at + long) (put_mid at (length t - at) t out) ≡ take at t ++ line_then (name, body) []
+  text_grown =
+      let p = take at t ++ line_then (name, body) [] in
+      let l : length p ≡ at + long = length-append (take at t) (line_then (name, body) []) ∙ (omega (arith, length-take-le at t h, line_long name body)) in
+      ap (take (at + long)) line_behind ∙ take_at p (drop (length p) t) (at + long) l
 
 -- what a text with one more line is of
 module _ (t u name body : List ℕ) (r : is_text t ≡ true) (w : u ≡ t ++ line_then (name, body) []) (v : is_name name ≡ true) (s : length body ≤ 32768) (y : are_bytes body ≡ true) (n : look_up (entries_of t) name ≡ None) where

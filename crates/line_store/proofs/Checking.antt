@@ -1,6 +1,6 @@
 -- A text, checked line by line from its start.
-use Rattle.std.proofs.Common.{◌≡◌, ℕ, ◌<◌, Bool, true, false, not, ◌&&◌, leb, List, [], ◌∷◌, ◌++◌, length, is_some, sym, refl, ap, ◌∙◌, ⊎_elim, arith}
-use Rattle.std.proofs.lemmas.Bool.{cases_Bool, and_parts, and_from, and_left, and_right, le-leb, leb-true, leb-false, lt-leb, not-true, not_from_false, both_ways}
+use Rattle.std.proofs.Common.{◌≡◌, ℕ, ◌<◌, Bool, true, false, not, ◌&&◌, leb, List, [], ◌∷◌, ◌++◌, length, is_some, ◌==◌, sym, refl, ap, ◌∙◌, ⊎_elim, arith}
+use Rattle.std.proofs.lemmas.Bool.{cases_Bool, and_parts, and_from, and_left, and_right, le-leb, leb-true, leb-false, lt-leb, eqb-true, eq-eqb, not-true, not_from_false, both_ways}
 use Rattle.std.specs.List.{list_all}
 use Rattle.octets.specs.Buffers.{are_bytes}
 use Rattle.octets.specs.Hex.{hex, is_hex, unhex}
@@ -76,10 +76,13 @@ module _ (rest name body after : List ℕ) (cut : rest ≡ name ++ 0x20 ∷ (bod
         let new = sym (looks t.0 (unhex name) t.1.0 hn.back) ∙ fresh in
         ((unhex name, unhex body) ∷ t.0, (text, and_from _ _ (and_from _ _ n.1 (and_from _ _ b.1 hb.small)) (and_from _ _ (not_from_false _ new) t.1.1)))
 
--- the text's end
-pub told_end : (rest : List ℕ) → length rest ≡ 0 → Told rest
-told_end [] e = ([], (refl, refl))
-told_end (x ∷ rest) e = absurd (omega arith)
+-- where no line is left, the text is that of sound entries exactly where nothing is left
+pub told_ends : (text rest : List ℕ) (b : Bool) → Same text rest → NoLine rest → b ≡ (length rest == 0) → (b ≡ true → Told text) × (Told text → b ≡ true)
+told_ends text rest b s none e = ((λ t. s.whole (end rest (eqb-true _ _ (sym e ∙ t)))), (λ t. e ∙ eq-eqb _ _ (start (s.part t))))
+  where
+    end : (r : List ℕ) → length r ≡ 0 → Told r
+    end [] h = ([], (refl, refl))
+    end (x ∷ r) h = absurd (omega arith)
 
-pub told_rest : (rest : List ℕ) → NoLine rest → Told rest → length rest ≡ 0
-told_rest rest none t = let n = none_first t.0 rest none t.1.0 in ap length (sym t.1.0 ∙ ap text_of n)
+    start : Told rest → length rest ≡ 0
+    start t = let n = none_first t.0 rest none t.1.0 in ap length (sym t.1.0 ∙ ap text_of n)

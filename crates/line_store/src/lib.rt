@@ -15,7 +15,8 @@ use store::listing::Listing;
 use store::refusal::{FileRefusal, GetRefusal};
 use store::{Store, limits};
 
-// A store that is text in a lent buffer: the first `used` bytes. Its text is always that of its entries.
+// A store that is text in a lent buffer: the first `used` bytes. Its text is always that of its entries. The buffer is
+// fixed memory, so its used length stands beside it.
 #[derive(Drop)]
 pub struct LineStore<'a> {
     buffer: &'a mut [u8],
@@ -91,7 +92,7 @@ impl<'a> LineStore<'a> {
         ensures meaning { meaning_of self.new ≡ with (meaning_of self.old) name.now body.now }
         ensures appended { Appended self.old self.new (name.now, body.now) }
     {
-        self.used = writing::write_line(self.buffer, self.used, name, body);
+        self.used += writing::write_line(&mut self.buffer[self.used..], name, body);
     }
 }
 

@@ -1,7 +1,8 @@
 -- A search for a byte.
-use Rattle.std.proofs.Common.{◌≡◌, ℕ, suc, ◌+◌, ◌<◌, ◌≤◌, Bool, true, false, not, cond, ltb, List, [], ◌∷◌, length, Some, None, is_some, unwrap_or, ◌==◌, sym, refl, ap, ◌∙◌, ⊎_elim, arith}
+use Rattle.std.proofs.Common.{◌≡◌, ℕ, zero, suc, get_or, Option, ◌+◌, ◌<◌, ◌≤◌, Bool, true, false, not, cond, ltb, List, [], ◌∷◌, length, Some, None, is_some, unwrap_or, ◌==◌, sym, refl, ap, ◌∙◌, ⊎_elim, arith}
 use Rattle.std.specs.List.{position, position_or_len}
-use Rattle.std.proofs.lemmas.Bool.{eq-eqb, ne_eqb, cases_lt, lt-ltb, le-ltb, both_ways}
+use Rattle.std.proofs.lemmas.Bool.{eq-eqb, eqb-true, ne_eqb, cases_lt, lt-ltb, le-ltb, both_ways}
+use Rattle.memchr.specs.Find.{IsFirstByte, is_byte}
 use Rattle.octets.specs.Search.{up_to}
 
 pub up_to_here : (c x : ℕ) (xs : List ℕ) → x ≡ c → up_to c (x ∷ xs) ≡ 0
@@ -54,3 +55,19 @@ module _ (c : ℕ) (xs : List ℕ) where
       (λ (l : up_to c xs < length xs). absurd (both_ways false refl (ap is_some (e ∙ there l))))
       (λ (l : length xs ≤ up_to c xs). omega (arith, up_to_le c xs))
       (cases_lt (up_to c xs) (length xs))
+
+-- the first place that holds a c, and where no place does
+up_to_at : (c : ℕ) (xs : List ℕ) (k : ℕ) → k < length xs → (get_or xs k 0 == c) ≡ true → ((j : ℕ) → j < k → (get_or xs j 0 == c) ≡ true → ⊥) → up_to c xs ≡ k
+up_to_at c [] k h e n = absurd (omega arith)
+up_to_at c (x ∷ xs) zero h e n = up_to_here c x xs (eqb-true x c e)
+up_to_at c (x ∷ xs) (suc k) h e n = up_to_on c x xs (λ z. n 0 (omega arith) (eq-eqb x c z)) ∙ ap suc (up_to_at c xs k (omega arith) e (λ j l z. n (suc j) (omega arith) z))
+
+up_to_end : (c : ℕ) (xs : List ℕ) → ((j : ℕ) → j < length xs → (get_or xs j 0 == c) ≡ true → ⊥) → up_to c xs ≡ length xs
+up_to_end c [] n = refl
+up_to_end c (x ∷ xs) n = up_to_on c x xs (λ z. n 0 (omega arith) (eq-eqb x c z)) ∙ ap suc (up_to_end c xs (λ j l z. n (suc j) (omega arith) z))
+
+pub first_byte : (c : ℕ) (xs : List ℕ) (r : Option ℕ) → IsFirstByte (is_byte c) xs r → r ≡ position (λ x. x == c) xs
+first_byte c xs None n = sym (absent c xs (omega (arith, up_to_end c xs (λ j l z. n j (omega arith) l z))))
+first_byte c xs (Some k) h =
+    let u = up_to_at c xs k h.0.high h.1 (λ j l z. h.0.before j (omega arith) l z) in
+    ap Some (sym u) ∙ sym (there c xs (omega (arith, u, h.0.high)))

@@ -3,11 +3,13 @@ ghost use Rattle.std.specs.Prelude.{◌≡◌, ◌+◌, ◌<◌, ◌≤◌, leng
 ghost use Rattle.std.specs.List.{position};
 ghost use Rattle.octets.specs.Search.{up_to};
 
+use memchr::memchr;
+
 // The place of the first `c`.
 fn first(text: &[u8], c: u8) -> Option<usize>
     ensures { result ≡ position (λ b. b == c) text.now }
 {
-    text.iter().position(|b| *b == c)
+    memchr(c, text)
 }
 
 // The place of the first `c` from `from` on, or the text's end; `from` itself where that lies past the end.

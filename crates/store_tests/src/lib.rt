@@ -6,26 +6,13 @@ use std::alloc::{AllocError, Global};
 use store::Store;
 use store::limits::BODY_MAX;
 
-// A store's answer to `file`: 0, or the refusal's number.
-fn file_code<S: Store>(store: &mut S, name: &[u8], body: &[u8]) -> u8 {
-    match store.file(name, body) {
-        Ok(()) => 0,
-        Err(refusal) => u8::from(refusal),
-    }
-}
-
-// A store's answer to `get` into `out`: 0, or the refusal's number.
-fn get_code<S: Store>(store: &S, name: &[u8], out: &mut [u8]) -> u8 {
-    match store.get(name, out) {
+// The number of a store's answer: 0, or the refusal's.
+fn code<T: Drop, E>(answer: Result<T, E>) -> u8
+where
+    u8: From<E>,
+{
+    match answer {
         Ok(_) => 0,
-        Err(refusal) => u8::from(refusal),
-    }
-}
-
-// A line store's answer to `open`: 0, or the refusal's number.
-fn open_code(store: &mut LineStore, used: usize) -> u8 {
-    match store.open(used) {
-        Ok(()) => 0,
         Err(refusal) => u8::from(refusal),
     }
 }
@@ -34,7 +21,7 @@ fn open_code(store: &mut LineStore, used: usize) -> u8 {
 fn opening(heap: Global, text: &[u8]) -> Result<u8, AllocError> {
     let mut buffer = Vec::from_slice(heap, text)?;
     let mut store = LineStore::new(buffer.as_mut_slice());
-    Ok(open_code(&mut store, text.len()))
+    Ok(code(store.open(text.len())))
 }
 
 // What a store answers where a name is filed, looked for, and got into a full and a short buffer.
@@ -47,10 +34,10 @@ fn round<S: Store>(
 ) -> Result<(), AllocError> {
     let mut full = vec![in heap; 0; BODY_MAX]?;
     let mut short = vec![in heap; 0; BODY_MAX - 1]?;
-    answers.push(file_code(store, name, body))?;
+    answers.push(code(store.file(name, body)))?;
     answers.push(u8::from(store.has(name)))?;
-    answers.push(get_code(store, name, full.as_mut_slice()))?;
-    answers.push(get_code(store, name, short.as_mut_slice()))?;
+    answers.push(code(store.get(name, full.as_mut_slice())))?;
+    answers.push(code(store.get(name, short.as_mut_slice())))?;
     Ok(())
 }
 
@@ -121,15 +108,15 @@ mod tests {
         let heap = rt.alloc();
         let mut buffer = vec![in heap; 0; 14]?;
         let mut store = LineStore::new(buffer.as_mut_slice());
-        assert_eq!(rt; file_code(&mut store, b"a", b"bc"), 0);
+        assert_eq!(rt; code(store.file(b"a", b"bc")), 0);
         assert!(rt; store.fits(1, 1));
         assert!(rt; !store.fits(1, 2));
-        assert_eq!(rt; file_code(&mut store, b"d", b"ef"), 22);
-        assert_eq!(rt; file_code(&mut store, b"a", b"ef"), 21);
-        assert_eq!(rt; file_code(&mut store, b"d", b"e"), 0);
+        assert_eq!(rt; code(store.file(b"d", b"ef")), 22);
+        assert_eq!(rt; code(store.file(b"a", b"ef")), 21);
+        assert_eq!(rt; code(store.file(b"d", b"e")), 0);
         assert_eq!(rt; store.text(), b"61 6263\n64 65\n".as_slice());
         assert!(rt; !store.fits(0, 0));
-        assert_eq!(rt; file_code(&mut store, b"f", b""), 22);
+        assert_eq!(rt; code(store.file(b"f", b"")), 22);
         Ok(())
     }
 
@@ -142,11 +129,11 @@ mod tests {
         assert!(rt; !store.has(b"a"));
         assert!(rt; store.fits(2, 3));
         assert!(rt; !store.fits(3, 3));
-        assert_eq!(rt; file_code(&mut store, b"a", b"bcd"), 0);
-        assert_eq!(rt; file_code(&mut store, b"e", b"f"), 22);
-        assert_eq!(rt; file_code(&mut store, b"e", b""), 0);
+        assert_eq!(rt; code(store.file(b"a", b"bcd")), 0);
+        assert_eq!(rt; code(store.file(b"e", b"f")), 22);
+        assert_eq!(rt; code(store.file(b"e", b"")), 0);
         assert!(rt; !store.fits(0, 0));
-        assert_eq!(rt; file_code(&mut store, b"a", b""), 21);
+        assert_eq!(rt; code(store.file(b"a", b"")), 21);
         Ok(())
     }
 
@@ -155,11 +142,11 @@ mod tests {
         let heap = rt.alloc();
         let mut buffer = vec![in heap; 0; 100]?;
         let mut store = LineStore::new(buffer.as_mut_slice());
-        assert_eq!(rt; file_code(&mut store, b"a", b"\x00\xff"), 0);
+        assert_eq!(rt; code(store.file(b"a", b"\x00\xff")), 0);
         let mut out = vec![in heap; 0xaa; BODY_MAX + 1]?;
-        assert_eq!(rt; get_code(&store, b"b", out.as_mut_slice()), 23);
+        assert_eq!(rt; code(store.get(b"b", out.as_mut_slice())), 23);
         assert_eq!(rt; out.first().copied(), Some(0xaa));
-        assert_eq!(rt; get_code(&store, b"a", out.as_mut_slice()), 0);
+        assert_eq!(rt; code(store.get(b"a", out.as_mut_slice())), 0);
         let mut wanted = vec![in heap; 0xaa; BODY_MAX + 1]?;
         assert!(rt; wanted.len() > 2);
         wanted[0] = 0;
@@ -173,16 +160,16 @@ mod tests {
         let heap = rt.alloc();
         let mut buffer = Vec::from_slice(heap, b"61 6263\n64 \n!")?;
         let mut store = LineStore::new(buffer.as_mut_slice());
-        assert_eq!(rt; open_code(&mut store, 14), 1);
-        assert_eq!(rt; open_code(&mut store, 13), 12);
+        assert_eq!(rt; code(store.open(14)), 1);
+        assert_eq!(rt; code(store.open(13)), 12);
         assert!(rt; !store.has(b"a"));
-        assert_eq!(rt; open_code(&mut store, 12), 0);
+        assert_eq!(rt; code(store.open(12)), 0);
         assert!(rt; store.has(b"a") && store.has(b"d"));
-        assert_eq!(rt; open_code(&mut store, 11), 12);
+        assert_eq!(rt; code(store.open(11)), 12);
         assert_eq!(rt; store.text(), b"61 6263\n64 \n".as_slice());
-        assert_eq!(rt; open_code(&mut store, 8), 0);
+        assert_eq!(rt; code(store.open(8)), 0);
         assert!(rt; store.has(b"a") && !store.has(b"d"));
-        assert_eq!(rt; open_code(&mut store, 0), 0);
+        assert_eq!(rt; code(store.open(0)), 0);
         assert!(rt; !store.has(b"a"));
         Ok(())
     }

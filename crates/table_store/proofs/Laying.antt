@@ -1,9 +1,6 @@
 -- Rows over a block, one by one.
-use Rattle.std.proofs.Common.{◌≡◌, ℕ, zero, suc, ◌+◌, ◌<◌, ◌≤◌, cond, List, [], ◌∷◌, ◌++◌, length, get_or, take, drop, Some, None, sym, refl, ap, ◌∙◌, ⊎_elim, arith}
-use Rattle.std.proofs.lemmas.Bool.{cases_Bool}
-use Rattle.std.proofs.lemmas.List.{append_assoc, length-drop, length-take-le, get_or-take, take-append-le, drop-append-le, take-append-drop, take_more, take_at, drop_at, drop-drop, at_drop_more, at_drop_all}
-use Rattle.std.proofs.lemmas.Slice.Eq.{bytes_eq-Decides}
-use Rattle.std.specs.Str.{bytes_eq}
+use Rattle.std.proofs.Common.{◌≡◌, ℕ, zero, suc, ◌+◌, ◌<◌, ◌≤◌, List, [], ◌∷◌, ◌++◌, length, get_or, take, drop, sym, refl, ap, ◌∙◌, arith}
+use Rattle.std.proofs.lemmas.List.{append_assoc, length-drop, length-take-le, get_or-take, take-append-le, drop-append-le, take-append-drop, take_more, take_at, drop_at, drop-drop}
 use Rattle.octets.specs.Buffers.{over}
 use Rattle.store.specs.Entries.{look_up, name_at}
 use Rattle.table_store.specs.Blocks.{entries_in, size}
@@ -61,40 +58,6 @@ blank = record { name = 0; body = 0 }
 pub record Left (rows : List Row) (block name rest : List ℕ) (i : ℕ) : Type 0 where
   pub within : size (drop i rows) ≤ length rest
   pub looks : look_up (entries_in (drop i rows) rest) name ≡ look_up (entries_in rows block) name
-
-module _ (rows : List Row) (block name rest : List ℕ) (i : ℕ) (left : Left rows block name rest i) (h : i < length rows) where
-  pub row_within : (get_or rows i blank).name + (get_or rows i blank).body + size (drop (i + 1) rows) ≤ length rest
-  row_within = omega (arith, left.within, at_drop_more size rows i blank h)
-
-  here : look_up (entries_in rows block) name
-      ≡ cond (bytes_eq (take (get_or rows i blank).name rest) name) (Some (take (get_or rows i blank).body (drop (get_or rows i blank).name rest)))
-      (look_up (entries_in (drop (i + 1) rows) (drop ((get_or rows i blank).name + (get_or rows i blank).body) rest)) name)
-  here = sym left.looks ∙ at_drop_more (λ z. look_up (entries_in z rest) name) rows i blank h
-
-  module _ (front body after : List ℕ) (ef : front ≡ take (get_or rows i blank).name rest) (eb : body ≡ take (get_or rows i blank).body (drop (get_or rows i blank).name rest))
-      (ea : after ≡ drop (get_or rows i blank).body (drop (get_or rows i blank).name rest)) where
-    passes : look_up (entries_in rows block) name ≡ cond (bytes_eq front name) (Some body) (look_up (entries_in (drop (i + 1) rows) after) name)
-    passes =
-        let r = get_or rows i blank in
-        let t : drop (r.name + r.body) rest ≡ after = ap (λ z. drop z rest) (omega arith) ∙ sym (ea ∙ drop-drop r.body r.name rest) in
-        here ∙ ap (λ z. cond (bytes_eq z name) (Some (take r.body (drop r.name rest))) (look_up (entries_in (drop (i + 1) rows) (drop (r.name + r.body) rest)) name)) (sym ef)
-        ∙ ap (λ z. cond (bytes_eq front name) (Some z) (look_up (entries_in (drop (i + 1) rows) (drop (r.name + r.body) rest)) name)) (sym eb)
-        ∙ ap (λ z. cond (bytes_eq front name) (Some body) (look_up (entries_in (drop (i + 1) rows) z) name)) t
-
-    pub row_found : front ≡ name → Some body ≡ look_up (entries_in rows block) name
-    row_found e = sym (passes ∙ ap (λ z. cond z (Some body) (look_up (entries_in (drop (i + 1) rows) after) name)) ((bytes_eq-Decides _ _).1 e))
-
-    pub row_passed : (front ≡ name → ⊥) → Left rows block name after (i + 1)
-    row_passed f = record {
-      within = omega (arith, row_within, ap length ea, length-drop (get_or rows i blank).body (drop (get_or rows i blank).name rest), length-drop (get_or rows i blank).name rest);
-      looks = ⊎_elim
-          (λ t. absurd (f ((bytes_eq-Decides _ _).0 t)))
-          (λ t. sym (passes ∙ ap (λ z. cond z (Some body) (look_up (entries_in (drop (i + 1) rows) after) name)) t))
-          (cases_Bool (bytes_eq front name));
-    }
-
-pub left_all : (rows : List Row) (block name rest : List ℕ) (i : ℕ) → Left rows block name rest i → length rows ≤ i → None ≡ look_up (entries_in rows block) name
-left_all rows block name rest i left h = sym (at_drop_all (λ z. look_up (entries_in z rest) name) rows i h) ∙ left.looks
 
 -- what is written past the rows in use is told by none of them
 pub entries_kept : (rs : List Row) (block part : List ℕ) (at : ℕ) → size rs ≤ at → at ≤ length block → entries_in rs (over (take at block ++ part) block) ≡ entries_in rs block

@@ -15,7 +15,8 @@ use store::refusal::{FileRefusal, GetRefusal};
 use store::{Store, limits};
 use table::Row;
 
-// A store of rows over a block: `count` rows are in use, and `filled` bytes. It opens empty.
+// A store of rows over a block: `count` rows are in use, and `filled` bytes. Both are fixed memory, so the counts stand
+// beside them. It opens empty.
 #[derive(Drop)]
 pub struct TableStore<'a> {
     rows: &'a mut [Row],

@@ -1,4 +1,4 @@
-use Rattle.std.proofs.Common.{◌≡◌, true, take, arith}
+use Rattle.std.proofs.Common.{◌≡◌, true, arith}
 use Rattle.octets.specs.Buffers.{are_bytes}
 use Rattle.octets.proofs.Hexed.{bytes_from}
 use Rattle.line_store.specs.Held.{text_in}
@@ -10,17 +10,15 @@ invariant_of-self-clause-told c =
     let s = c.args.self.now in
     let name = c.args.name.now in
     let body = c.args.body.now in
-    let w = c.write_line-self.ensures in
-    let y : are_bytes body ≡ true = bytes_from body (λ i. omega (arith, c.type_inv.body i)) in
-    line_is_text (text_in s) (take c.write_line-self.result c.write_line-self.new.buffer) name body s.told (text_grown s.buffer.now c.write_line-self.new.buffer name body s.used c.write_line-self.result s.within w.end w.after)
-    c.requires.entry_formed.0 c.requires.entry_formed.1 y c.requires.name_free
+    let bytes : are_bytes body ≡ true = bytes_from body (λ i. omega (arith, c.type_inv.body i)) in
+    line_is_text (text_in s) _ name body s.told (text_grown s.buffer.now c.write_line.new.out name body s.used c.write_line.result s.within c.write_line.ensures.long c.write_line.ensures.after)
+    c.requires.entry_formed.0 c.requires.entry_formed.1 bytes c.requires.name_free
 
 pub returns-clause-meaning : goal.returns-clause-meaning
 returns-clause-meaning c =
     let s = c.args.self.now in
     let name = c.args.name.now in
     let body = c.args.body.now in
-    let w = c.write_line-self.ensures in
-    let y : are_bytes body ≡ true = bytes_from body (λ i. omega (arith, c.type_inv.body i)) in
-    line_with (text_in s) (take c.write_line-self.result c.write_line-self.new.buffer) name body s.told (text_grown s.buffer.now c.write_line-self.new.buffer name body s.used c.write_line-self.result s.within w.end w.after)
-    c.requires.entry_formed.0 c.requires.entry_formed.1 y c.requires.name_free
+    let bytes : are_bytes body ≡ true = bytes_from body (λ i. omega (arith, c.type_inv.body i)) in
+    line_with (text_in s) _ name body s.told (text_grown s.buffer.now c.write_line.new.out name body s.used c.write_line.result s.within c.write_line.ensures.long c.write_line.ensures.after)
+    c.requires.entry_formed.0 c.requires.entry_formed.1 bytes c.requires.name_free

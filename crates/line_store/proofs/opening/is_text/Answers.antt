@@ -1,8 +1,8 @@
-use Rattle.std.proofs.Common.{false, is_some, sym, refl, ◌∙◌}
-use Rattle.std.proofs.lemmas.Bool.{both_ways, eqb-true, eq-eqb}
+use Rattle.std.proofs.Common.{false, is_some, sym, refl, rules}
+use Rattle.std.proofs.lemmas.Bool.{both_ways}
 use Rattle.store.specs.Entries.{look_up}
 use Rattle.line_store.proofs.Finding.{some_copied}
-use Rattle.line_store.proofs.Checking.{not_spelt, not_twice, told_more, told_after, told_end, told_rest}
+use Rattle.line_store.proofs.Checking.{not_spelt, not_twice, told_more, told_after, told_ends}
 use Rattle.line_store.proofs.opening.is_text.Goals.{then-not-is_entry-via-then-not-is_entry, then-not-is_entry-via-else-not-is_entry+then-is_some}
 use Rattle.line_store.proofs.opening.is_text.Goals as goal
 
@@ -35,8 +35,4 @@ loop-line-preserved c =
     }
 
 pub returns : goal.returns
-returns c =
-    let rest = c.loop-line.rest.now in (
-      λ z. c.loop-line.invariant.whole (told_end rest (eqb-true _ _ (sym c.is_empty.ensures ∙ z))),
-      λ t. c.is_empty.ensures ∙ eq-eqb _ _ (told_rest rest c.in_default.ensures.reads (c.loop-line.invariant.part t)),
-    )
+returns c = told_ends c.args.text.now c.loop-line.rest.now _ c.loop-line.invariant c.in_default.ensures.reads (search rules)
