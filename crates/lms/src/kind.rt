@@ -1,5 +1,5 @@
 // The types of trees, and what follows from them.
-ghost use Rattle.std.specs.Prelude.{◌≡◌, ◌^◌, ◌≤◌, false, MatchResult};
+ghost use Rattle.std.specs.Prelude.{◌≡◌, ◌+◌, ◌*◌, ◌^◌, ◌≤◌, false, MatchResult};
 ghost use Rattle.lms.specs.Kinds.{type_number};
 ghost use Rattle.lms.specs.Lms.{known, height as height_of};
 
@@ -53,5 +53,12 @@ impl LmsType {
         ensures bounds { (32 ≤ result) × (result ≤ 1024) }
     {
         1 << self.height()
+    }
+
+    // How many bytes a signature has: the leaf's number, the one-time signature, the type, and a sibling for each level.
+    pub fn signature_len(self) -> usize
+        ensures { result ≡ 1132 + 32 * height_of (type_number self) }
+    {
+        1132 + 32 * self.height()
     }
 }
