@@ -8,3 +8,4 @@ mod Spelling
 mod Stepping
 mod Summed
 pub mod Valued
+pub mod Written

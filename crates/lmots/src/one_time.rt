@@ -30,7 +30,8 @@ impl OneTimeSecret {
     }
 }
 
-// The scheme.
+// The scheme. LMS implements the trait much alike: one block for both would need a second trait that states again what
+// `Scheme` states, with its laws, for what lies below the keytype.
 #[derive(Clone, Copy)]
 pub struct LmOts;
 

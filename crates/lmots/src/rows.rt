@@ -62,6 +62,7 @@ impl Leaf {
         ensures still { (end : ℕ → List ℕ) → ((j : ℕ) → j < 4 → steps_of sha256 (bytes self.id) self.number (slice_index_or runs j blank).chain (slice_index_or runs j blank).steps (slice_index_or runs j blank).first (slice_index_or values.now (slice_index_or runs j blank).chain []) ≡ end (slice_index_or runs j blank).chain) → (k : ℕ) → k < 34 → Ended end ended.old k → Ended end ended.new k }
         ensures here { (end : ℕ → List ℕ) → ((j : ℕ) → j < 4 → steps_of sha256 (bytes self.id) self.number (slice_index_or runs j blank).chain (slice_index_or runs j blank).steps (slice_index_or runs j blank).first (slice_index_or values.now (slice_index_or runs j blank).chain []) ≡ end (slice_index_or runs j blank).chain) → (j : ℕ) → j < 4 → Ended end ended.new (slice_index_or runs j blank).chain }
     {
+        // four calls, since the closure of a `map` would have to repeat the clauses of `value_of`
         let [a, b, c, d] = runs;
         let begun = beside(
             value_of(values, a),

@@ -9,7 +9,7 @@ ghost use Rattle.lms.specs.Lms.{height as height_of, well_formed, root as root_o
 
 use crate::kind::LmsType;
 use crate::nodes::{climb, leaf_node};
-use crate::signing::PUBLIC_KEY_LEN;
+use crate::signing::{PATH_AT, PUBLIC_KEY_LEN, TYPE_AT};
 use lmots::leaf::Leaf;
 use lmots::signing::TYPE as ONE_TIME_TYPE;
 use lmots::words::id_words;
@@ -27,12 +27,12 @@ fn leads(kind: LmsType, key: &[u8], leaf: u32, message: &[u8], signature: &[u8])
     };
     let id = id_words(id);
     let one_time = Leaf { id, number: leaf };
-    let Some(leaf_key) = one_time.candidate(message, &signature[8..1128]) else {
+    let Some(leaf_key) = one_time.candidate(message, &signature[8..TYPE_AT]) else {
         return false;
     };
     let r = kind.leaves() + leaf;
     let bottom = leaf_node(id, r, &leaf_key);
-    let root = climb(id, r, bottom, &signature[1132..]);
+    let root = climb(id, r, bottom, &signature[PATH_AT..]);
     root.as_slice() == &key[24..]
 }
 
@@ -56,7 +56,7 @@ fn verdict(key: &[u8], message: &[u8], signature: &[u8]) -> bool
     let leaf = leading_number(signature);
     is_well_formed(key)
         && number_at(signature, 4) == number_at(key, 4)
-        && number_at(signature, 1128) == leading_number(key)
+        && number_at(signature, TYPE_AT) == leading_number(key)
         && leaf < kind.leaves()
         && signature.len() == kind.signature_len()
         && leads(kind, key, leaf, message, signature)

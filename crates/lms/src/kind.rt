@@ -3,6 +3,8 @@ ghost use Rattle.std.specs.Prelude.{◌≡◌, ◌+◌, ◌*◌, ◌^◌, ◌≤
 ghost use Rattle.lms.specs.Kinds.{type_number};
 ghost use Rattle.lms.specs.Lms.{known, height as height_of};
 
+use crate::signing::PATH_AT;
+
 // By the names of RFC 8554, which end in the tree's height.
 #[derive(Clone, Copy, PartialEq, Eq, Debug)]
 pub enum LmsType {
@@ -55,10 +57,10 @@ impl LmsType {
         1 << self.height()
     }
 
-    // How many bytes a signature has: the leaf's number, the one-time signature, the type, and a sibling for each level.
+    // How many bytes a signature has: the leaf's number, the one-time signature, the type, and a sibling a level.
     pub fn signature_len(self) -> usize
         ensures { result ≡ 1132 + 32 * height_of (type_number self) }
     {
-        1132 + 32 * self.height()
+        PATH_AT + 32 * self.height()
     }
 }

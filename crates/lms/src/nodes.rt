@@ -5,6 +5,9 @@ ghost use Rattle.lms.specs.Lms.{half as half_of, leaf, inner, climb as climbed};
 
 use lmots::hashes::tagged;
 
+// Identifier and number stay parameters here: a climb changes the number at each level, so that a struct of both would
+// be made anew for each call.
+
 // The node of a leaf, from its key.
 pub(crate) fn leaf_node(id: [u32; 4], r: u32, key: &[u8]) -> [u8; 32]
     ensures { result ≡ leaf sha256 (bytes id) r key.now }

@@ -16,6 +16,12 @@ use octets::buffer::put;
 // How many bytes a public key has: both types, the identifier and node 1.
 pub const PUBLIC_KEY_LEN: usize = 56;
 
+// Where a signature has its tree's type, behind the leaf's number and the one-time signature.
+pub(crate) const TYPE_AT: usize = 1128;
+
+// Where its path begins.
+pub(crate) const PATH_AT: usize = 1132;
+
 // The height of the tallest tree.
 const HEIGHT_MAX: usize = 10;
 
@@ -66,7 +72,7 @@ impl TreeSecret {
         let path = path(&self.nodes, height, kind.leaves() + leaf);
         put(out, 0, &leaf.to_be_bytes());
         put(out, 4, &self.material.sign(leaf, message));
-        put(out, 1128, &u32::from(kind).to_be_bytes());
-        put(out, 1132, path[..height].as_flattened());
+        put(out, TYPE_AT, &u32::from(kind).to_be_bytes());
+        put(out, PATH_AT, path[..height].as_flattened());
     }
 }
