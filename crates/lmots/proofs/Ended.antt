@@ -1,42 +1,36 @@
 -- Chains that come to their ends one by one.
-use Rattle.std.proofs.Common.{◌≡◌, ℕ, zero, suc, ◌+◌, ◌-◌, ◌<◌, ◌≤◌, List, [], ◌∷◌, get_or, ap, ◌∙◌, subst, ⊎_elim, arith}
-use Rattle.std.proofs.lemmas.Bool.{cases_lt}
-use Rattle.sha256_lanes.proofs.Four.{below4}
+use Rattle.std.proofs.Common.{◌≡◌, ℕ, ◌+◌, ◌-◌, ◌*◌, ◌<◌, ◌≤◌, List, [], length, get_or, set, drop, sym, ap, ◌∙◌, ⊎_elim, arith, get_or-set_other, get_or-set_same}
+use Rattle.std.specs.Simd.{first_chunks}
+use Rattle.std.proofs.lemmas.Bool.{cases_eq}
+use Rattle.std.proofs.lemmas.List.{get_or-drop, get_or-take}
 use Rattle.lmots.specs.declared.run.Run.{Run}
 use Rattle.lmots.specs.LmOts.{steps, through}
-use Rattle.lmots.specs.Runs.{blank, Runs, Ended, Ends}
+use Rattle.lmots.specs.Runs.{blank, Runs, Ended}
+use Rattle.lmots.proofs.Valued.{chunk_of_4}
 
 -- where a run takes a chain
 pub run_end : (H : List ℕ → List ℕ) (I : List ℕ) (q : ℕ) (from to : List ℕ) (run : Run) (t : List ℕ) → Runs from to run
     → steps H I q run.chain run.steps run.first t ≡ through H I q run.chain (get_or from run.chain 0) (get_or to run.chain 0) t
 run_end H I q from to run t h = ap (λ n. steps H I q run.chain n run.first t) h.counted ∙ ap (λ a. steps H I q run.chain (get_or to run.chain 0 - get_or from run.chain 0) a t) h.begun
 
-pub ends_on : (end : ℕ → List ℕ) (u v w : List ℕ) (i k : ℕ) → i < 34 → Ends end u v i → Ends end v w k → (Ends end u w i) × (Ends end u w k)
-ends_on end u v w i k l a b =
-    let on : (n : ℕ) → n < 34 → Ended end u n → Ended end w n = λ n m h. b.still n m (a.still n m h) in
-    (record { still = on; here = b.still i l a.here }, record { still = on; here = b.here })
+-- a run ends with the chain
+pub run_short : (from to : List ℕ) (run : Run) → ((i : ℕ) → get_or from i 0 < 256) → ((i : ℕ) → get_or to i 0 < 256) → Runs from to run → run.first + run.steps ≤ 255
+run_short from to run hf ht h = omega (arith, h.begun, h.counted, hf run.chain, ht run.chain)
 
--- four of the runs
-abbrev pub four : List Run → ℕ → ℕ → ℕ → ℕ → List Run
-four runs a b d e = get_or runs a blank ∷ get_or runs b blank ∷ get_or runs d blank ∷ get_or runs e blank ∷ []
+-- the end of a chain is written: it stands there, and what stood elsewhere stays
+pub put_here : (end : ℕ → List ℕ) (values : List (List ℕ)) (i : ℕ) (v : List ℕ) → i < length values → v ≡ end i → Ended end (set values i v) i
+put_here end values i v l h = get_or-set_same values i v [] l ∙ h
 
-pub of_four : (P : Run → Type 0) (runs : List Run) (a b d e : ℕ) → ((p : ℕ) → p < 34 → P (get_or runs p blank)) → a < 34 → b < 34 → d < 34 → e < 34 → (j : ℕ) → j < 4 → P (get_or (four runs a b d e) j blank)
-of_four P runs a b d e h la lb ld le = below4 _ (h a la) (h b lb) (h d ld) (h e le)
-
--- the first two
-pub two_first : (end : ℕ → List ℕ) (v w : List ℕ) (runs : List Run) → ((j : ℕ) → j < 4 → Ends end v w (get_or (four runs 0 0 1 1) j blank).chain) → (p : ℕ) → p < 2 → Ended end w (get_or runs p blank).chain
-two_first end v w runs now zero l = (now 0 (omega arith)).here
-two_first end v w runs now (suc zero) l = (now 2 (omega arith)).here
-two_first end v w runs now (suc (suc p)) l = absurd (omega arith)
-
--- four more
-pub four_more : (end : ℕ → List ℕ) (v w : List ℕ) (runs : List Run) (n : ℕ) → ((p : ℕ) → p < n → (get_or runs p blank).chain < 34) → ((p : ℕ) → p < n → Ended end v (get_or runs p blank).chain)
-    → ((j : ℕ) → j < 4 → Ends end v w (get_or (four runs n (n + 1) (n + 2) (n + 3)) j blank).chain) → (p : ℕ) → p < n + 4 → Ended end w (get_or runs p blank).chain
-four_more end v w runs n low before now p l =
-    let At : ℕ → Type 0 = λ k. Ended end w (get_or runs k blank).chain in
-    let z : n ≡ n + 0 = omega arith in
-    let here : (j : ℕ) → j < 4 → At (n + j) = below4 (λ j. At (n + j)) (subst At z (now 0 (omega arith)).here) (now 1 (omega arith)).here (now 2 (omega arith)).here (now 3 (omega arith)).here in
+pub put_still : (end : ℕ → List ℕ) (values : List (List ℕ)) (i k : ℕ) (v : List ℕ) → i < length values → v ≡ end i → Ended end values k → Ended end (set values i v) k
+put_still end values i k v l h before =
     ⊎_elim
-    (λ (m : p < n). (now 0 (omega arith)).still (get_or runs p blank).chain (low p m) (before p m))
-    (λ (m : n ≤ p). let e : n + (p - n) ≡ p = omega arith in subst At e (here (p - n) (omega arith)))
-    (cases_lt p n)
+    (λ (e : k ≡ i). ap (λ n. get_or (set values i v) n []) e ∙ put_here end values i v l h ∙ ap end (sym e))
+    (λ ne. get_or-set_other values i k v [] ne ∙ before)
+    (cases_eq k i)
+
+-- run j of the group g of four, behind the first two
+pub of_four : (runs : List Run) (g j : ℕ) → g < 8 → j < 4 → get_or (get_or (first_chunks 4 8 (drop 2 runs)) g []) j blank ≡ get_or runs (2 + 4 * g + j) blank
+of_four runs g j l m =
+    let e : 2 + (4 * g + j) ≡ 2 + 4 * g + j = omega arith in
+    ap (λ v. get_or v j blank) (chunk_of_4 8 g (drop 2 runs) l) ∙ get_or-take 4 (drop (4 * g) (drop 2 runs)) j blank m
+    ∙ get_or-drop (4 * g) (drop 2 runs) j blank ∙ get_or-drop 2 runs (4 * g + j) blank ∙ ap (λ n. get_or runs n blank) e

@@ -1,9 +1,11 @@
 mod Advanced
 mod Block
+mod Called
 mod Ended
 mod Laned
 mod Ordered
 mod Spelling
 mod Stepping
 mod Summed
-mod Verdicts
+pub mod Valued
+pub mod Written

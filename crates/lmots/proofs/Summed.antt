@@ -1,6 +1,7 @@
 -- The checksum, byte by byte, and the digits.
-use Rattle.std.proofs.Common.{◌≡◌, ℕ, ◌+◌, ◌-◌, ◌/◌, ◌%◌, ◌<◌, ◌≤◌, List, [], ◌∷◌, ◌++◌, length, get_or, drop, set, replicate, refl, ap, ◌∙◌, arith}
-use Rattle.std.proofs.lemmas.List.{drop_more, drop_all, set-append_right}
+use Rattle.std.proofs.Common.{◌≡◌, ℕ, ◌+◌, ◌-◌, ◌<◌, ◌≤◌, List, [], ◌∷◌, ◌++◌, length, get_or, drop, replicate, refl, ap, ◌∙◌}
+use Rattle.std.proofs.lemmas.List.{append-nil, drop_at, drop_more, drop_all, take_at}
+use borrow.Rule.Slice.PartMut.{put_mid}
 use Rattle.octets.specs.Numbers.{u16}
 use Rattle.lmots.specs.LmOts.{checksum}
 
@@ -16,12 +17,10 @@ pub sum_zeros : checksum (replicate 32 0) ≡ 0x1FE0
 unfolding checksum
 sum_zeros = refl
 
-pub digits_are : (X h : List ℕ) (n : ℕ) → X ≡ h → length h ≡ 32 → n ≡ checksum h → n ≤ 8160
-    → set (set (X ++ (0 ∷ 0 ∷ [])) 32 (n / 256)) 33 (n % 256) ≡ h ++ u16 (checksum h)
-digits_are X h n e l s le =
+-- a hash, and its checksum written behind it
+pub digits_are : (X Y h : List ℕ) → X ≡ h → length h ≡ 32 → Y ≡ u16 (checksum h) → put_mid 32 2 (X ++ (0 ∷ 0 ∷ [])) Y ≡ h ++ u16 (checksum h)
+digits_are X Y h e l s =
     let lX : length X ≡ 32 = ap length e ∙ l in
-    let f : n / 256 ≡ n / 256 % 256 = omega arith in
-    ap (λ v. set v 33 (n % 256)) (set-append_right X (0 ∷ 0 ∷ []) 32 32 (n / 256) lX (omega arith))
-    ∙ set-append_right X (n / 256 ∷ 0 ∷ []) 32 33 (n % 256) lX (omega arith)
-    ∙ ap (λ v. X ++ (v ∷ n % 256 ∷ [])) f
-    ∙ ap (λ v. v ++ u16 n) e ∙ ap (λ v. h ++ u16 v) s
+    let none : drop 2 (drop 32 (X ++ (0 ∷ 0 ∷ []))) ≡ [] = ap (drop 2) (drop_at X (0 ∷ 0 ∷ []) 32 lX) in
+    ap (λ v. v ++ (Y ++ drop 2 (drop 32 (X ++ (0 ∷ 0 ∷ []))))) (take_at X (0 ∷ 0 ∷ []) 32 lX)
+    ∙ ap (λ v. X ++ (Y ++ v)) none ∙ ap (λ v. X ++ v) (append-nil Y) ∙ ap (λ v. v ++ Y) e ∙ ap (λ v. h ++ v) s

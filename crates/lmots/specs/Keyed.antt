@@ -16,7 +16,7 @@ is_held w key m sig = bytes_eq w word && holds sha256 key m sig
 
 -- the public key of a secret, and its signature by a leaf over a message
 abbrev pub public_of : OneTimeSecret → List ℕ
-public_of s = public_key sha256 (bytes s.id) 0 (bytes s.seed)
+public_of s = public_key sha256 (bytes s.material.id) 0 (bytes s.material.seed)
 
 abbrev pub signed_by : OneTimeSecret → ℕ → List ℕ → List ℕ
-signed_by s leaf m = signature sha256 (bytes s.id) leaf (bytes s.seed) m
+signed_by s leaf m = signature sha256 (bytes s.material.id) leaf (bytes s.material.seed) m

@@ -45,10 +45,10 @@ signed_held I q leaf SEED m hI hq e =
 
 -- of a secret
 pub secret_formed : (s : OneTimeSecret) → is_formed word (public_of s) ≡ true
-secret_formed s = own_formed (bytes s.id) 0 (bytes s.seed) (omega (arith, length-bytes s.id, s.whole))
+secret_formed s = own_formed (bytes s.material.id) 0 (bytes s.material.seed) (omega (arith, length-bytes s.material.id, s.material.whole))
 
 pub secret_limited : (s : OneTimeSecret) → (1 ≤ 1) × (1 < 2 ^ 32)
 secret_limited s = (omega arith, omega arith)
 
 pub secret_held : (s : OneTimeSecret) (leaf : ℕ) (m : List ℕ) → leaf < 1 → is_held word (public_of s) m (signed_by s leaf m) ≡ true
-secret_held s leaf m l = signed_held (bytes s.id) 0 leaf (bytes s.seed) m (omega (arith, length-bytes s.id, s.whole)) (omega arith) (omega arith)
+secret_held s leaf m l = signed_held (bytes s.material.id) 0 leaf (bytes s.material.seed) m (omega (arith, length-bytes s.material.id, s.material.whole)) (omega arith) (omega arith)

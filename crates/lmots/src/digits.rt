@@ -30,8 +30,7 @@ pub(crate) fn digits(hash: [u8; 32]) -> [u8; CHAINS]
 {
     let sum = checksum(&hash);
     let mut all = [0; CHAINS];
-    all[0..32].copy_from_slice(&hash);
-    all[32] = (sum / 256) as u8;
-    all[33] = (sum % 256) as u8;
+    all[..32].copy_from_slice(&hash);
+    all[32..].copy_from_slice(&sum.to_be_bytes());
     all
 }

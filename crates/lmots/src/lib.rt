@@ -8,6 +8,7 @@ pub mod digits;
 pub mod hashes;
 mod lanes;
 pub mod leaf;
+pub mod material;
 pub mod one_time;
 mod order;
 mod rows;

@@ -5,11 +5,10 @@ ghost use Rattle.sha256.specs.Sha256.{bytes};
 ghost use Rattle.lmots.specs.Keyed.{word, is_formed, is_held, public_of, signed_by};
 ghost use Rattle.lmots.specs.KeyedLemmas.{formed_bounded, formed_short, held_exact, secret_formed, secret_limited, secret_held};
 
-use crate::leaf::Leaf;
+use crate::checking;
+use crate::material::KeyMaterial;
 use crate::secret::OneTimeSecret;
 use crate::signing::SIGNATURE_LEN;
-use crate::words::{id_words, seed_words};
-use crate::{checking, signing};
 use octets::buffer::put;
 use scheme::Scheme;
 use scheme::refusal::{SignRefusal, admit};
@@ -23,16 +22,16 @@ const LEAVES: u32 = 1;
 impl OneTimeSecret {
     // The secret of an identifier and a seed.
     pub fn new(id: &[u8; 16], seed: &[u8; 32]) -> OneTimeSecret
-        ensures { (bytes result.id ≡ id.now) × (bytes result.seed ≡ seed.now) }
+        ensures { (bytes result.material.id ≡ id.now) × (bytes result.material.seed ≡ seed.now) }
     {
-        let id = id_words(id);
-        let seed = seed_words(seed);
-        let public = signing::public_key(Leaf { id, number: 0 }, seed);
-        OneTimeSecret { id, seed, public }
+        let material = KeyMaterial::new(id, seed);
+        let public = material.public_key(0);
+        OneTimeSecret { material, public }
     }
 }
 
-// The scheme.
+// The scheme. LMS implements the trait much alike: one block for both would need a second trait that states again what
+// `Scheme` states, with its laws, for what lies below the keytype.
 #[derive(Clone, Copy)]
 pub struct LmOts;
 
@@ -97,14 +96,7 @@ impl Scheme for LmOts {
         out: &mut [u8],
     ) -> Result<usize, SignRefusal> {
         admit(out.len(), SIGNATURE_LEN, leaf, LEAVES)?;
-        let signature = signing::sign(
-            Leaf {
-                id: secret.id,
-                number: leaf,
-            },
-            secret.seed,
-            message,
-        );
+        let signature = secret.material.sign(leaf, message);
         put(out, 0, &signature);
         Ok(SIGNATURE_LEN)
     }

@@ -1,4 +1,4 @@
 mod Acceptance
 mod Growth
 mod Levels
-mod Verdicts
+mod Rooted

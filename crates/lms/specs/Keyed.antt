@@ -17,10 +17,10 @@ is_held w key m sig = bytes_eq w word && holds sha256 key m sig
 
 -- the public key of a secret, how many leaves it has, and its signature by a leaf over a message
 abbrev pub public_of : TreeSecret → List ℕ
-public_of s = public_key sha256 (type_number s.kind) (bytes s.id) (bytes s.seed)
+public_of s = public_key sha256 (type_number s.kind) (bytes s.material.id) (bytes s.material.seed)
 
 abbrev pub leaves_of : TreeSecret → ℕ
 leaves_of s = 2 ^ height (type_number s.kind)
 
 abbrev pub signed_by : TreeSecret → ℕ → List ℕ → List ℕ
-signed_by s leaf m = signature sha256 (type_number s.kind) (bytes s.id) (bytes s.seed) leaf m
+signed_by s leaf m = signature sha256 (type_number s.kind) (bytes s.material.id) (bytes s.material.seed) leaf m

@@ -67,10 +67,10 @@ module _ (t : LmsType) (I SEED : List ℕ) (hI : length I ≡ 16) where
 
 -- of a secret
 pub secret_formed : (s : TreeSecret) → is_formed word (public_of s) ≡ true
-secret_formed s = own_formed s.kind (bytes s.id) (bytes s.seed) (omega (arith, length-bytes s.id, s.whole))
+secret_formed s = own_formed s.kind (bytes s.material.id) (bytes s.material.seed) (omega (arith, length-bytes s.material.id, s.material.whole))
 
 pub secret_limited : (s : TreeSecret) → (1 ≤ leaves_of s) × (leaves_of s < 2 ^ 32)
 secret_limited s = ((kind_known s.kind).2, (kind_known s.kind).3)
 
 pub secret_held : (s : TreeSecret) (leaf : ℕ) (m : List ℕ) → leaf < leaves_of s → is_held word (public_of s) m (signed_by s leaf m) ≡ true
-secret_held s leaf m l = signed_held s.kind (bytes s.id) (bytes s.seed) (omega (arith, length-bytes s.id, s.whole)) leaf m l
+secret_held s leaf m l = signed_held s.kind (bytes s.material.id) (bytes s.material.seed) (omega (arith, length-bytes s.material.id, s.material.whole)) leaf m l

@@ -1,6 +1,6 @@
 -- LMS, as section 5 of RFC 8554 defines it, over a hash H, with LM-OTS of type 4 at the leaves.
 -- I is the key's identifier of 16 bytes, SEED its secret of 32 bytes, T the type's number, q a leaf's number.
-use Rattle.std.specs.Prelude.{◌≡◌, ℕ, zero, suc, ◌+◌, ◌-◌, ◌*◌, ◌/◌, ◌%◌, ◌^◌, ◌<◌, ◌≤◌, Bool, cond, ◌&&◌, ◌||◌, List, [], ◌∷◌, ◌++◌, length, take, drop, ◌==◌, nat_lt}
+use Rattle.std.specs.Prelude.{◌≡◌, ℕ, zero, suc, ◌+◌, ◌-◌, ◌*◌, ◌/◌, ◌%◌, ◌^◌, ◌<◌, ◌≤◌, Bool, cond, ◌&&◌, ◌||◌, List, [], ◌∷◌, ◌++◌, length, take, drop, ◌==◌, nat_lt, slice_index_or}
 use Rattle.std.specs.Str.{bytes_eq}
 use Rattle.octets.specs.Numbers.{u32, number}
 use Rattle.octets.specs.Parts.{cut}
@@ -21,11 +21,6 @@ well_formed key = known (number key) && (number (drop 4 key) == 4 && length key 
 abbrev pub signature_size : List ℕ → ℕ
 signature_size key = 1132 + 32 * height (number key)
 
--- what a signature has to be like, for a tree of type T: its leaf q, its one-time type o, and the parts behind them,
--- which are the one-time parts, the type and the path
-abbrev pub suitable : ℕ → ℕ → ℕ → List ℕ → Bool
-suitable T q o parts = o == 4 && (number (drop 1120 parts) == T && (nat_lt q (2 ^ height T) && length parts == 1124 + 32 * height T))
-
 -- the other child of the node above r
 abbrev pub beside : ℕ → ℕ
 beside r = cond (r % 2 == 1) (r - 1) (r + 1)
@@ -35,10 +30,10 @@ beside r = cond (r % 2 == 1) (r - 1) (r + 1)
 abbrev pub half : ℕ → List ℕ → List ℕ → List ℕ
 half r s t = cond (r % 2 == 1) s t
 
--- what stands beside r and the n - 1 nodes above it, in a row that has each node r at 32 * r
-unfoldable pub picked : List ℕ → ℕ → ℕ → List ℕ
+-- what stands beside r and the n - 1 nodes above it, in a list that has each node at its number
+unfoldable pub picked : List (List ℕ) → ℕ → ℕ → List ℕ
 picked nodes zero r = []
-picked nodes (suc n) r = cut (32 * beside r) 32 nodes ++ picked nodes n (r / 2)
+picked nodes (suc n) r = slice_index_or nodes (beside r) [] ++ picked nodes n (r / 2)
 
 -- a node r from low on, d levels up: those are from 2 ^ (h - d) to twice that
 abbrev pub Place : ℕ → ℕ → Type 0
@@ -90,6 +85,6 @@ module _ (H : List ℕ → List ℕ) where
       && (nat_lt (number sig) (2 ^ height (number key)) && (length sig == signature_size key
       && bytes_eq (root (height (number key)) (cut 8 16 key) (number sig) m (cut 8 1120 sig) (drop 1132 sig)) (drop 24 key)))))
 
-  -- a row that has each node r at 32 * r, from node low on
-  abbrev pub Grown : ℕ → List ℕ → List ℕ → ℕ → List ℕ → Type 0
-  Grown h I SEED low nodes = (p : Place h low) → cut (32 * p.1) 32 nodes ≡ node h I SEED p.0 p.1
+  -- a list that has each node at its number, from node low on
+  abbrev pub Grown : ℕ → List ℕ → List ℕ → ℕ → List (List ℕ) → Type 0
+  Grown h I SEED low nodes = (p : Place h low) → slice_index_or nodes p.1 [] ≡ node h I SEED p.0 p.1

@@ -1,57 +1,39 @@
 // Checking signatures.
-ghost use Rattle.std.specs.Prelude.{◌≡◌, ◌+◌, ◌*◌, ◌^◌, ◌<◌, length, take, drop, Decides};
+ghost use Rattle.std.specs.Prelude.{◌≡◌, ◌+◌, ◌*◌, ◌^◌, ◌<◌, length, drop, Decides};
 ghost use Rattle.std.specs.Str.{bytes_eq};
 ghost use Rattle.sha256.specs.Sha256.{sha256};
 ghost use Rattle.octets.specs.Parts.{cut};
 ghost use Rattle.lms.specs.Accepted.{Accepted};
 ghost use Rattle.lms.specs.Kinds.{type_number};
-ghost use Rattle.lms.specs.Lms.{height as height_of, well_formed, suitable, root as root_of, holds as holding};
+ghost use Rattle.lms.specs.Lms.{height as height_of, well_formed, root as root_of, holds as holding};
 
 use crate::kind::LmsType;
 use crate::nodes::{climb, leaf_node};
-use crate::signing::PUBLIC_KEY_LEN;
-use lmots::checking::{PARTS_LEN, candidate};
+use crate::signing::{PATH_AT, PUBLIC_KEY_LEN, TYPE_AT};
 use lmots::leaf::Leaf;
+use lmots::signing::TYPE as ONE_TIME_TYPE;
 use lmots::words::id_words;
 use octets::numbers::{leading_number, number_at};
 
-// The number of the type of the one-time keys, LMOTS_SHA256_N32_W8.
-const ONE_TIME_TYPE: u32 = 4;
-
-// How many bytes follow a public key's type: the one-time type, the identifier and node 1.
-const REST_LEN: usize = 52;
-
-// How many bytes of a signature stand behind the one-time type and before the path: the one-time parts and the type.
-const BEFORE_PATH: usize = 1124;
-
-// Whether what a signature has behind the one-time type leads to node 1 of what a key has behind its type.
-fn leads(kind: LmsType, rest: &[u8], leaf: u32, message: &[u8], parts: &[u8]) -> bool
-    requires key { length rest.now ≡ 52 }
-    requires long { length parts.now ≡ 1124 + 32 * height_of (type_number kind) }
+// Whether what a signature has behind its one-time type leads to node 1 of a key.
+fn leads(kind: LmsType, key: &[u8], leaf: u32, message: &[u8], signature: &[u8]) -> bool
+    requires key { length key.now ≡ 56 }
+    requires long { length signature.now ≡ 1132 + 32 * height_of (type_number kind) }
     requires below { leaf < 2 ^ height_of (type_number kind) }
-    ensures { result ≡ bytes_eq (root_of sha256 (height_of (type_number kind)) (cut 4 16 rest.now) leaf message.now (take 1120 parts.now) (drop 1124 parts.now)) (drop 20 rest.now) }
+    ensures { result ≡ bytes_eq (root_of sha256 (height_of (type_number kind)) (cut 8 16 key.now) leaf message.now (cut 8 1120 signature.now) (drop 1132 signature.now)) (drop 24 key.now) }
 {
-    let Some((id, top)) = rest[4..REST_LEN].split_first_chunk::<16>() else {
+    let Some(id) = key[8..].first_chunk::<16>() else {
         return false;
     };
     let id = id_words(id);
-    let Some(key) = candidate(Leaf { id, number: leaf }, message, &parts[0..PARTS_LEN]) else {
+    let one_time = Leaf { id, number: leaf };
+    let Some(leaf_key) = one_time.candidate(message, &signature[8..TYPE_AT]) else {
         return false;
     };
     let r = kind.leaves() + leaf;
-    let bottom = leaf_node(id, r, &key);
-    let root = climb(id, kind.height(), r, bottom, &parts[BEFORE_PATH..]);
-    root.as_slice() == top
-}
-
-// Whether a signature of a leaf and a one-time type, with these parts behind them, is one of a tree of this type.
-fn suits(kind: LmsType, leaf: u32, one_time: u32, parts: &[u8]) -> bool
-    ensures { result ≡ suitable (type_number kind) leaf one_time parts.now }
-{
-    one_time == ONE_TIME_TYPE
-        && number_at(parts, PARTS_LEN) == u32::from(kind)
-        && leaf < kind.leaves()
-        && parts.len() == BEFORE_PATH + 32 * kind.height()
+    let bottom = leaf_node(id, r, &leaf_key);
+    let root = climb(id, r, bottom, &signature[PATH_AT..]);
+    root.as_slice() == &key[24..]
 }
 
 // Whether a public key has a known type, the one-time type, and is as long as it should be.
@@ -62,26 +44,22 @@ pub fn is_well_formed(key: &[u8]) -> bool
     kind.is_ok() && number_at(key, 4) == ONE_TIME_TYPE && key.len() == PUBLIC_KEY_LEN
 }
 
-// By the tests that make a signature hold. A key is its type and the rest; a signature is the
-// leaf's number, the one-time type and the rest.
+// By the tests that make a signature hold. A signature is the leaf's number, the one-time signature, the type and the
+// path.
+#[tactic(auto, unfolding(crate::specs::Lms::holds))]
 fn verdict(key: &[u8], message: &[u8], signature: &[u8]) -> bool
     ensures { result ≡ holding sha256 key.now message.now signature.now }
 {
-    let [t0, t1, t2, t3, rest @ ..] = key else {
+    let Ok(kind) = LmsType::try_from(leading_number(key)) else {
         return false;
     };
-    let [q0, q1, q2, q3, o0, o1, o2, o3, parts @ ..] = signature else {
-        return false;
-    };
-    let Ok(kind) = LmsType::try_from(u32::from_be_bytes([*t0, *t1, *t2, *t3])) else {
-        return false;
-    };
-    if leading_number(rest) != ONE_TIME_TYPE || rest.len() != REST_LEN {
-        return false;
-    }
-    let leaf = u32::from_be_bytes([*q0, *q1, *q2, *q3]);
-    let one_time = u32::from_be_bytes([*o0, *o1, *o2, *o3]);
-    suits(kind, leaf, one_time, parts) && leads(kind, rest, leaf, message, parts)
+    let leaf = leading_number(signature);
+    is_well_formed(key)
+        && number_at(signature, 4) == number_at(key, 4)
+        && number_at(signature, TYPE_AT) == leading_number(key)
+        && leaf < kind.leaves()
+        && signature.len() == kind.signature_len()
+        && leads(kind, key, leaf, message, signature)
 }
 
 // Whether a signature holds for a message under a public key, which is: whether it climbs to the key's root.

@@ -1,7 +1,9 @@
 // The types of trees, and what follows from them.
-ghost use Rattle.std.specs.Prelude.{◌≡◌, ◌^◌, ◌≤◌, false, MatchResult};
+ghost use Rattle.std.specs.Prelude.{◌≡◌, ◌+◌, ◌*◌, ◌^◌, ◌≤◌, false, MatchResult};
 ghost use Rattle.lms.specs.Kinds.{type_number};
 ghost use Rattle.lms.specs.Lms.{known, height as height_of};
+
+use crate::signing::PATH_AT;
 
 // By the names of RFC 8554, which end in the tree's height.
 #[derive(Clone, Copy, PartialEq, Eq, Debug)]
@@ -53,5 +55,12 @@ impl LmsType {
         ensures bounds { (32 ≤ result) × (result ≤ 1024) }
     {
         1 << self.height()
+    }
+
+    // How many bytes a signature has: the leaf's number, the one-time signature, the type, and a sibling a level.
+    pub fn signature_len(self) -> usize
+        ensures { result ≡ 1132 + 32 * height_of (type_number self) }
+    {
+        PATH_AT + 32 * self.height()
     }
 }

@@ -6,33 +6,28 @@ ghost use Rattle.lms.specs.Keyed.{word, is_formed, is_held, public_of, leaves_of
 ghost use Rattle.lms.specs.Lms.{signature_size};
 ghost use Rattle.lms.specs.KeyedLemmas.{formed_bounded, formed_short, held_exact, secret_formed, secret_limited, secret_held};
 
+use crate::checking;
 use crate::kind::LmsType;
 use crate::secret::TreeSecret;
-use crate::tree::{ROW, grow};
-use crate::{checking, signing};
-use lmots::words::{id_words, seed_words};
+use crate::signing::public_key;
+use crate::tree::grow;
+use lmots::material::KeyMaterial;
 use scheme::Scheme;
 use scheme::refusal::{SignRefusal, admit};
 
 // The keytype.
 pub const KEYTYPE: &[u8] = b"lms";
 
-// How many bytes of a signature stand before the path.
-const BEFORE_PATH: usize = 1132;
-
 impl TreeSecret {
     // The secret of a type, an identifier and a seed: all nodes of the tree are worked out.
     pub fn new(kind: LmsType, id: &[u8; 16], seed: &[u8; 32]) -> TreeSecret
-        ensures { (result.kind ≡ kind) × (bytes result.id ≡ id.now) × (bytes result.seed ≡ seed.now) }
+        ensures { (result.kind ≡ kind) × (bytes result.material.id ≡ id.now) × (bytes result.material.seed ≡ seed.now) }
     {
-        let id = id_words(id);
-        let seed = seed_words(seed);
-        let mut nodes = [0; ROW];
-        grow(id, seed, kind, &mut nodes);
-        let public = signing::public_key(id, kind, &nodes);
+        let material = KeyMaterial::new(id, seed);
+        let nodes = grow(material, kind);
+        let public = public_key(material.id, kind, &nodes);
         TreeSecret {
-            id,
-            seed,
+            material,
             kind,
             public,
             nodes,
@@ -94,7 +89,7 @@ impl Scheme for Lms {
     }
 
     fn signature_len(&self, secret: &TreeSecret) -> usize {
-        BEFORE_PATH + 32 * secret.kind.height()
+        secret.kind.signature_len()
     }
 
     fn sign(
@@ -106,7 +101,7 @@ impl Scheme for Lms {
     ) -> Result<usize, SignRefusal> {
         let len = self.signature_len(secret);
         admit(out.len(), len, leaf, secret.kind.leaves())?;
-        signing::write(secret, leaf, message, out);
+        secret.write(leaf, message, out);
         Ok(len)
     }
 }

@@ -1,49 +1,42 @@
-// A whole tree, in a row that has node r at 32 * r.
-ghost use Rattle.std.specs.Prelude.{◌≡◌, ◌+◌, ◌-◌, ◌*◌, ◌^◌, ◌<◌, ◌≤◌, length};
+// A whole tree, in an array that has each node at its number, as RFC 8554 counts them: there is no heap for boxes.
+ghost use Rattle.std.specs.Prelude.{◌≡◌, ◌+◌, ◌-◌, ◌*◌, ◌<◌, ◌≤◌, [], slice_index_or};
 ghost use Rattle.sha256.specs.Sha256.{bytes, sha256};
-ghost use Rattle.octets.specs.Parts.{cut};
 ghost use Rattle.lmots.specs.LmOts.{K as key_of};
 ghost use Rattle.lms.specs.Kinds.{type_number};
 ghost use Rattle.lms.specs.Lms.{height as height_of, leaf, inner, Grown};
 
 use crate::kind::LmsType;
 use crate::nodes::{inner_node, leaf_node};
-use lmots::leaf::Leaf;
-use lmots::signing::leaf_key;
-use octets::buffer::put;
+use lmots::material::KeyMaterial;
 
-// How many bytes a row of the largest tree has.
-pub const ROW: usize = 65_536;
+// How many nodes the largest tree has, with the unused node 0.
+const NODES: usize = 2048;
+
+pub(crate) type Nodes = [[u8; 32]; NODES];
 
 // Node r, from the nodes below it.
-fn node_over(id: [u32; 4], seed: [u32; 8], leaves: u32, nodes: &[u8], r: u32) -> [u8; 32]
-    requires { (leaves ≤ 1024) × ((r < 2 * leaves) × (64 * leaves ≤ length nodes.now)) }
-    ensures bottom { leaves ≤ r → result ≡ leaf sha256 (bytes id) r (key_of sha256 (bytes id) (r - leaves) (bytes seed)) }
-    ensures up { r < leaves → result ≡ inner sha256 (bytes id) r (cut (64 * r) 32 nodes.now) (cut (64 * r + 32) 32 nodes.now) }
+fn node_over(material: KeyMaterial, leaves: u32, nodes: &Nodes, r: u32) -> [u8; 32]
+    requires { (leaves ≤ 1024) × (r < 2 * leaves) }
+    ensures bottom { leaves ≤ r → result ≡ leaf sha256 (bytes material.id) r (key_of sha256 (bytes material.id) (r - leaves) (bytes material.seed)) }
+    ensures up { r < leaves → result ≡ inner sha256 (bytes material.id) r (slice_index_or nodes.now (2 * r) []) (slice_index_or nodes.now (2 * r + 1) []) }
 {
     if r >= leaves {
-        let key = leaf_key(
-            Leaf {
-                id,
-                number: r - leaves,
-            },
-            seed,
-        );
-        leaf_node(id, r, &key)
+        leaf_node(material.id, r, &material.leaf_key(r - leaves))
     } else {
-        let at = 64 * r as usize;
-        inner_node(id, r, &nodes[at..at + 32], &nodes[at + 32..at + 64])
+        let left = 2 * r as usize;
+        inner_node(material.id, r, &nodes[left], &nodes[left + 1])
     }
 }
 
-// Fills a row with the nodes of a tree, from the last leaf to the root.
-pub(crate) fn grow(id: [u32; 4], seed: [u32; 8], kind: LmsType, nodes: &mut [u8])
-    requires { 65536 ≤ length nodes.old }
-    ensures { Grown sha256 (height_of (type_number kind)) (bytes id) (bytes seed) 1 nodes.new }
+// The nodes of a tree, worked out from the last leaf to the root.
+pub(crate) fn grow(material: KeyMaterial, kind: LmsType) -> Nodes
+    ensures { Grown sha256 (height_of (type_number kind)) (bytes material.id) (bytes material.seed) 1 result }
 {
     let leaves = kind.leaves();
+    let mut nodes = [[0; 32]; NODES];
     for r in (1..2 * leaves).rev() {
-        let node = node_over(id, seed, leaves, nodes, r);
-        put(nodes, 32 * r as usize, &node);
+        let node = node_over(material, leaves, &nodes, r);
+        nodes[r as usize] = node;
     }
+    nodes
 }

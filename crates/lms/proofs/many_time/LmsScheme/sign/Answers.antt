@@ -12,7 +12,7 @@ use Rattle.lms.proofs.many_time.LmsScheme.sign.Goals as goal
 pub write-requires : goal.write-requires
 write-requires c =
     let s = c.args.secret.now in
-    let z = size_own s.kind (bytes s.id) (bytes s.seed) (omega (arith, length-bytes s.id, s.whole)) in
+    let z = size_own s.kind (bytes s.material.id) (bytes s.material.seed) (omega (arith, length-bytes s.material.id, s.material.whole)) in
     let e = c.signature_len-len.ensures in
     let l = c.leaves.ensures.is in
     let room = c.in_ok-admit.ensures.room in
@@ -26,10 +26,10 @@ returns-clause-accepted c =
     let T = type_number s.kind in
     let sig = signed_by s q m in
     let len = c.signature_len-len.result in
-    let z : signature_size (public_of s) ≡ 1132 + 32 * height T = size_own s.kind (bytes s.id) (bytes s.seed) (omega (arith, length-bytes s.id, s.whole)) in
+    let z : signature_size (public_of s) ≡ 1132 + 32 * height T = size_own s.kind (bytes s.material.id) (bytes s.material.seed) (omega (arith, length-bytes s.material.id, s.material.whole)) in
     let e : len ≡ signature_size (public_of s) = c.signature_len-len.ensures in
     let l = c.leaves.ensures.is in
     let room = c.in_ok-admit.ensures.room in
     let below : q < 2 ^ height T = omega arith in
-    let long : length sig ≡ len = Climbing.length-signature sha256 sized small T (bytes s.id) (bytes s.seed) q m ∙ sym (e ∙ z) in
+    let long : length sig ≡ len = Climbing.length-signature sha256 sized small T (bytes s.material.id) (bytes s.material.seed) q m ∙ sym (e ∙ z) in
     ap (λ v. is_held word (public_of s) m v) (ap (take len) c.write.ensures ∙ take_at sig (drop (length sig) c.args.out.now) len long) ∙ secret_held s q m below
