@@ -5,7 +5,8 @@ use line_store::LineStore;
 use std::alloc::{AllocError, Global};
 use table_store::table::Row;
 
-// The memory of a store that is to be open next.
+// The memory of a store that is to be open next. A line store lies in one buffer, of which `used` bytes
+// are its text, since it works in the memory that it is lent.
 #[derive(Drop)]
 pub enum Opening {
     Line { buffer: Vec<u8>, used: usize },

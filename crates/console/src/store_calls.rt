@@ -92,6 +92,7 @@ pub fn show_text(store: &LineStore, answer: &mut Answer) -> Result<(), AllocErro
 fn entries<S: Store + Listing>(store: &S, answer: &mut Answer) -> Result<(), AllocError> {
     let mut body = vec![in answer.heap(); 0; BODY_MAX]?;
     let mut name = [0; NAME_MAX];
+    // by place: a store has no heap, so it writes each name into a buffer that it is lent
     for index in 0..usize::MAX {
         let Some(name_len) = store.name_at(index, &mut name) else {
             break;

@@ -7,15 +7,21 @@ use line_store::LineStore;
 use std::alloc::AllocError;
 use table_store::TableStore;
 
-// `language::call::read` refuses the calls that the kind cannot answer, so that none of them comes here.
 pub trait Target {
     // The kind of the open store.
     fn kind(&self) -> Option<Kind>;
 
-    fn answer(&mut self, call: StoreCall, answer: &mut Answer) -> Result<(), AllocError>;
+    // A call that every store answers.
+    fn answer(&mut self, _call: StoreCall, _answer: &mut Answer) -> Result<(), AllocError> {
+        // never asked where no store is open: `language::call::read` refuses the call
+        Ok(())
+    }
 
     // text
-    fn show_text(&self, answer: &mut Answer) -> Result<(), AllocError>;
+    fn show_text(&self, _answer: &mut Answer) -> Result<(), AllocError> {
+        // never asked but of a line store, for the same reason
+        Ok(())
+    }
 }
 
 // Before a store is open.
@@ -25,14 +31,6 @@ pub struct NoStore;
 impl Target for NoStore {
     fn kind(&self) -> Option<Kind> {
         None
-    }
-
-    fn answer(&mut self, _call: StoreCall, _answer: &mut Answer) -> Result<(), AllocError> {
-        Ok(())
-    }
-
-    fn show_text(&self, _answer: &mut Answer) -> Result<(), AllocError> {
-        Ok(())
     }
 }
 
@@ -57,9 +55,5 @@ impl<'a> Target for TableStore<'a> {
 
     fn answer(&mut self, call: StoreCall, answer: &mut Answer) -> Result<(), AllocError> {
         store_calls::answer_store(self, call, answer)
-    }
-
-    fn show_text(&self, _answer: &mut Answer) -> Result<(), AllocError> {
-        Ok(())
     }
 }

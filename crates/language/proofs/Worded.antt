@@ -2,7 +2,7 @@
 use Rattle.std.proofs.Common.{◌≡◌, ℕ, ◌+◌, ◌<◌, suc, Bool, true, false, cond, ◌==◌, List, [], ◌∷◌, length, take, drop, Ok, Result, Bor, refl, sym, ap, ◌∙◌, subst, arith, Some, Option}
 use Rattle.octets.specs.Search.{up_to}
 use Rattle.language.specs.declared.mistake.Mistake.{Mistake}
-use Rattle.language.specs.Wording.{longer, words_in, words_of, Reads, IsWord}
+use Rattle.language.specs.Wording.{longer, words_in, words_of, ReadsWord, IsWord}
 
 pub words_whole : (t : List ℕ) → up_to 0x20 t ≡ length t → words_in t ≡ t ∷ []
 words_whole [] h = refl
@@ -38,7 +38,7 @@ pub none_without_text : (r : Option (Bor (List ℕ))) (t : Bor (List ℕ)) → r
 none_without_text r t e none = omega (arith, some_word t.now, ap length (ap words_of (sym e) ∙ none))
 
 -- what is said of the next word holds of what is read of it
-pub reads_on : {A E : Type 0} (error : Mistake → E) (ws : List (List ℕ)) (read : List ℕ → Result A E → Type 0) (w : Bor (List ℕ)) (r : Result A E) → Reads (λ m. m) ws IsWord (Ok w) → read w.now r → Reads error ws read r
+pub reads_on : {A E : Type 0} (error : Mistake → E) (ws : List (List ℕ)) (read : List ℕ → Result A E → Type 0) (w : Bor (List ℕ)) (r : Result A E) → ReadsWord (λ m. m) ws IsWord (Ok w) → read w.now r → ReadsWord error ws read r
 reads_on error [] read w r e h = cc
 reads_on error ([] ∷ ws) read w r e h = cc
 reads_on error ((x ∷ v) ∷ ws) read w r e h = subst (λ z. read z r) e h

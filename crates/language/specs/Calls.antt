@@ -14,7 +14,7 @@ use Rattle.language.specs.declared.call.StoreCall.{StoreCall}
 use Rattle.language.specs.declared.call.StoreCall.TheVariants.{File, Get, Has, Fits, Entries}
 use Rattle.language.specs.Names.{KindNamed, VerbNamed, barred}
 use Rattle.language.specs.Spelling.{IsSpelling}
-use Rattle.language.specs.Wording.{words_in, Reads, IsNumber}
+use Rattle.language.specs.Wording.{words_in, ReadsWord, IsNumber}
 
 -- what a word has to stand for: some bytes, a number, or a kind of store; the last one may be no word where the bytes are none
 pub data Argument : Type 0 where
@@ -25,11 +25,11 @@ pub data Argument : Type 0 where
 
 -- the first of the words stands for the argument
 abbrev pub Stands : Argument → List (List ℕ) → Type 0
-Stands (bytes b) ws = Reads Script ws IsSpelling (Ok b)
-Stands (number n) ws = Reads (λ m. m) ws IsNumber (Ok n)
-Stands (kind_of_store k) ws = Reads (λ m. m) ws KindNamed (Ok k)
+Stands (bytes b) ws = ReadsWord Script ws IsSpelling (Ok b)
+Stands (number n) ws = ReadsWord (λ m. m) ws IsNumber (Ok n)
+Stands (kind_of_store k) ws = ReadsWord (λ m. m) ws KindNamed (Ok k)
 Stands (bytes_if_any b) [] = vec_items b ≡ []
-Stands (bytes_if_any b) (w ∷ ws) = Reads Script (w ∷ ws) IsSpelling (Ok b)
+Stands (bytes_if_any b) (w ∷ ws) = ReadsWord Script (w ∷ ws) IsSpelling (Ok b)
 
 -- the words stand for the arguments, one by one, and then come the rest
 abbrev pub StandsFor : List Argument → List (List ℕ) → List (List ℕ) → Type 0
@@ -87,4 +87,4 @@ is_note (x ∷ t) = x == 0x23
 -- a line makes the call while a store of this kind, or none, is open: it is the name of a call that is not barred, and words that stand for the call's arguments, and no word more
 abbrev pub Makes : Option Kind → List ℕ → Call → Type 0
 Makes k line Nothing = is_note line ≡ true
-Makes k line call = (v : Verb) × (barred v k ≡ None) × HasVerb call v × Reads (λ m. m) (words_in line) VerbNamed (Ok v) × StandsFor (arguments call) (drop 1 (words_in line)) []
+Makes k line call = (v : Verb) × (barred v k ≡ None) × HasVerb call v × ReadsWord (λ m. m) (words_in line) VerbNamed (Ok v) × StandsFor (arguments call) (drop 1 (words_in line)) []

@@ -21,10 +21,10 @@ words_of None = []
 words_of (Some t) = words_in t.now
 
 -- what is read of the first of some words: that it is missing, that it has no bytes, or what `read` says of it
-abbrev pub Reads : {A E : Type 0} → (Mistake → E) → List (List ℕ) → (List ℕ → Result A E → Type 0) → Result A E → Type 0
-Reads error [] read r = r ≡ Err (error MissingWord)
-Reads error ([] ∷ ws) read r = r ≡ Err (error EmptyWord)
-Reads error ((x ∷ w) ∷ ws) read r = read (x ∷ w) r
+abbrev pub ReadsWord : {A E : Type 0} → (Mistake → E) → List (List ℕ) → (List ℕ → Result A E → Type 0) → Result A E → Type 0
+ReadsWord error [] read r = r ≡ Err (error MissingWord)
+ReadsWord error ([] ∷ ws) read r = r ≡ Err (error EmptyWord)
+ReadsWord error ((x ∷ w) ∷ ws) read r = read (x ∷ w) r
 
 -- the word itself
 abbrev pub IsWord : List ℕ → Result (Bor (List ℕ)) Mistake → Type 0

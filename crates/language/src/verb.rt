@@ -1,5 +1,6 @@
 // The names of the calls, and of the kinds of stores.
-ghost use Rattle.std.specs.Prelude.{◌≡◌};
+ghost use Rattle.std.specs.Prelude.{◌≡◌, find};
+ghost use Rattle.std.specs.Str.{bytes_eq};
 ghost use Rattle.language.specs.Names.{name_of, kind_name, VerbNamed, KindNamed};
 
 use crate::mistake::Mistake;
@@ -60,13 +61,15 @@ impl TryFrom<&[u8]> for Verb {
     ghost try_from_gives = { λ word r. VerbNamed word.now r };
 
     fn try_from(word: &[u8]) -> Result<Verb, Mistake> {
-        for verb in VERBS {
-            if word == verb.name() {
-                return Ok(verb);
-            }
-        }
-        Err(Mistake::UnknownCall)
+        named(&VERBS, word).ok_or(Mistake::UnknownCall)
     }
+}
+
+// The first of the calls that has this name.
+fn named(verbs: &[Verb], word: &[u8]) -> Option<Verb>
+    ensures { result ≡ find (λ v. bytes_eq (name_of v) word.now) verbs.now }
+{
+    verbs.iter().copied().find(|verb| verb.name() == word)
 }
 
 // What `open` can open.

@@ -4,7 +4,7 @@ ghost use Rattle.std.specs.Option.{SomeIff};
 ghost use Rattle.language.specs.Names.{KindNamed, VerbNamed};
 ghost use Rattle.language.specs.Numbers.{is_digit, number_in};
 ghost use Rattle.language.specs.Spelling.{is_coded, coded_by, meant, Gives, IsSpelling};
-ghost use Rattle.language.specs.Wording.{words_in, words_of, Reads, IsWord, IsNumber, IsSomeNumber};
+ghost use Rattle.language.specs.Wording.{words_in, words_of, ReadsWord, IsWord, IsNumber, IsSomeNumber};
 ghost use Rattle.language.specs.declared.mistake.Mistake.TheVariants.{ExtraWord};
 ghost use Rattle.language.specs.declared.mistake.Trouble.TheVariants.{Script};
 
@@ -45,7 +45,7 @@ impl<'a> Words<'a> {
     // The next word, which has to be there and to have bytes.
     pub fn word(&mut self) -> Result<&'a [u8], Mistake>
         ensures takes { self.new ≡ drop 1 self.old }
-        ensures reads { Reads (λ m. m) self.old IsWord result }
+        ensures reads { ReadsWord (λ m. m) self.old IsWord result }
     {
         let text = self.rest.ok_or(Mistake::MissingWord)?;
         let (word, rest) = parted(text);
@@ -60,7 +60,7 @@ impl<'a> Words<'a> {
     // The bytes that the next word stands for.
     pub fn bytes(&mut self) -> Result<Vec<u8>, Trouble>
         ensures takes { self.new ≡ drop 1 self.old }
-        ensures reads { Reads Script self.old IsSpelling result }
+        ensures reads { ReadsWord Script self.old IsSpelling result }
     {
         let word = self.word()?;
         spelt(self.heap, word)
@@ -68,7 +68,7 @@ impl<'a> Words<'a> {
 
     pub fn number(&mut self) -> Result<usize, Mistake>
         ensures takes { self.new ≡ drop 1 self.old }
-        ensures reads { Reads (λ m. m) self.old IsNumber result }
+        ensures reads { ReadsWord (λ m. m) self.old IsNumber result }
     {
         let word = self.word()?;
         number_of(word).ok_or(Mistake::NotANumber)
@@ -77,7 +77,7 @@ impl<'a> Words<'a> {
     // The bytes of the last word, if there is one more; else none.
     pub fn bytes_if_any(&mut self) -> Result<Vec<u8>, Trouble>
         ensures takes { self.new ≡ drop 1 self.old }
-        ensures some { 0 < length self.old → Reads Script self.old IsSpelling result }
+        ensures some { 0 < length self.old → ReadsWord Script self.old IsSpelling result }
         ensures none { self.old ≡ [] → IsOkAnd result (λ v. v.items ≡ []) }
     {
         match self.rest {
@@ -89,7 +89,7 @@ impl<'a> Words<'a> {
     // The number that the last word is, if there is one more.
     pub fn number_if_any(&mut self) -> Result<Option<usize>, Mistake>
         ensures takes { self.new ≡ drop 1 self.old }
-        ensures some { 0 < length self.old → Reads (λ m. m) self.old IsSomeNumber result }
+        ensures some { 0 < length self.old → ReadsWord (λ m. m) self.old IsSomeNumber result }
         ensures none { self.old ≡ [] → result ≡ Ok None }
     {
         match self.rest {
@@ -101,7 +101,7 @@ impl<'a> Words<'a> {
     // The kind of store that the next word names.
     pub fn kind(&mut self) -> Result<Kind, Mistake>
         ensures takes { self.new ≡ drop 1 self.old }
-        ensures reads { Reads (λ m. m) self.old KindNamed result }
+        ensures reads { ReadsWord (λ m. m) self.old KindNamed result }
     {
         Kind::try_from(self.word()?)
     }
@@ -109,7 +109,7 @@ impl<'a> Words<'a> {
     // The call that the next word names.
     pub fn verb(&mut self) -> Result<Verb, Mistake>
         ensures takes { self.new ≡ drop 1 self.old }
-        ensures reads { Reads (λ m. m) self.old VerbNamed result }
+        ensures reads { ReadsWord (λ m. m) self.old VerbNamed result }
     {
         Verb::try_from(self.word()?)
     }
