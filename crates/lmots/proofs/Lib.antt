@@ -8,4 +8,5 @@ mod Spelling
 mod Stepping
 mod Summed
 pub mod Valued
+mod Verdicts
 pub mod Written

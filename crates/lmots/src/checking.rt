@@ -1,14 +1,14 @@
 // Checking signatures.
-ghost use Rattle.std.specs.Prelude.{◌≡◌, ℕ, length, drop, MatchOption, ◌≢◌};
+ghost use Rattle.std.specs.Prelude.{◌≡◌, ℕ, ◌&&◌, length, MatchOption, ◌==◌, ◌≢◌};
 ghost use Rattle.sha256.specs.Sha256.{bytes, sha256};
-ghost use Rattle.lmots.specs.LmOts.{well_formed, yielded, agrees as agreeing, holds as holding};
+ghost use Rattle.lmots.specs.LmOts.{well_formed, yielded, agrees, holds as holding};
 
 use crate::digits::digits;
 use crate::leaf::Leaf;
 use crate::rows::CHAINS;
-use crate::signing::{PUBLIC_KEY_LEN, SIGNATURE_LEN, TYPE};
+use crate::signing::{PUBLIC_KEY_LEN, TYPE};
 use crate::words::id_words;
-use octets::numbers::{leading_number, number_at};
+use octets::numbers::leading_number;
 
 // How many bytes follow a signature's type: the randomizer and a value for each chain.
 pub const PARTS_LEN: usize = 1120;
@@ -39,31 +39,39 @@ pub fn is_well_formed(key: &[u8]) -> bool
 }
 
 // Whether a signature holds for a message under a public key. Each is four type bytes and then the rest.
-#[tactic(auto, unfolding(crate::specs::LmOts::holds))]
 pub fn holds(key: &[u8], message: &[u8], signature: &[u8]) -> bool
     ensures { result ≡ holding sha256 key.now message.now signature.now }
 {
-    is_well_formed(key)
-        && leading_number(signature) == leading_number(key)
-        && signature.len() == SIGNATURE_LEN
-        && agrees(key, message, signature)
-}
-
-// Whether a signature yields the K of a key.
-fn agrees(key: &[u8], message: &[u8], signature: &[u8]) -> bool
-    requires key { length key.now ≡ 56 }
-    requires signature { length signature.now ≡ 1124 }
-    ensures { result ≡ agreeing sha256 (drop 4 key.now) message.now (drop 4 signature.now) }
-{
-    let Some(id) = key[4..].first_chunk::<16>() else {
+    let [k0, k1, k2, k3, rest @ ..] = key else {
         return false;
     };
+    let [s0, s1, s2, s3, parts @ ..] = signature else {
+        return false;
+    };
+    let key_type = u32::from_be_bytes([*k0, *k1, *k2, *k3]);
+    let signature_type = u32::from_be_bytes([*s0, *s1, *s2, *s3]);
+    if key_type != TYPE || signature_type != key_type {
+        return false;
+    }
+    yields(rest, message, parts)
+}
+
+// Whether what follows a signature's type yields the K in what follows a key's.
+fn yields(rest: &[u8], message: &[u8], parts: &[u8]) -> bool
+    ensures { result ≡ (length rest.now == 52 && (length parts.now == 1120 && agrees sha256 rest.now message.now parts.now)) }
+{
+    let Some((id, tail)) = rest.split_first_chunk::<16>() else {
+        return false;
+    };
+    if tail.len() != 36 {
+        return false;
+    }
     let leaf = Leaf {
         id: id_words(id),
-        number: number_at(key, 20),
+        number: leading_number(tail),
     };
-    match leaf.candidate(message, &signature[4..]) {
-        Some(found) => found.as_slice() == &key[24..],
+    match leaf.candidate(message, parts) {
+        Some(found) => found.as_slice() == &tail[4..36],
         None => false,
     }
 }

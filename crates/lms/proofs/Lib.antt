@@ -2,3 +2,4 @@ mod Acceptance
 mod Growth
 mod Levels
 mod Rooted
+mod Verdicts

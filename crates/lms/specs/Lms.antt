@@ -21,6 +21,11 @@ well_formed key = known (number key) && (number (drop 4 key) == 4 && length key 
 abbrev pub signature_size : List ℕ → ℕ
 signature_size key = 1132 + 32 * height (number key)
 
+-- what a signature has to be like, for a tree of type T: its leaf q, its one-time type o, and the parts behind them,
+-- which are the one-time parts, the type and the path
+abbrev pub suitable : ℕ → ℕ → ℕ → List ℕ → Bool
+suitable T q o parts = o == 4 && (number (drop 1120 parts) == T && (nat_lt q (2 ^ height T) && length parts == 1124 + 32 * height T))
+
 -- the other child of the node above r
 abbrev pub beside : ℕ → ℕ
 beside r = cond (r % 2 == 1) (r - 1) (r + 1)
