@@ -125,25 +125,7 @@ pub(crate) fn block_words(b: &[u8]) -> [u32; 16]
     requires { length b.now ≡ 64 }
     ensures { result ≡ words b.now }
 {
-    let w0 = word(b[0], b[1], b[2], b[3]);
-    let w1 = word(b[4], b[5], b[6], b[7]);
-    let w2 = word(b[8], b[9], b[10], b[11]);
-    let w3 = word(b[12], b[13], b[14], b[15]);
-    let w4 = word(b[16], b[17], b[18], b[19]);
-    let w5 = word(b[20], b[21], b[22], b[23]);
-    let w6 = word(b[24], b[25], b[26], b[27]);
-    let w7 = word(b[28], b[29], b[30], b[31]);
-    let w8 = word(b[32], b[33], b[34], b[35]);
-    let w9 = word(b[36], b[37], b[38], b[39]);
-    let w10 = word(b[40], b[41], b[42], b[43]);
-    let w11 = word(b[44], b[45], b[46], b[47]);
-    let w12 = word(b[48], b[49], b[50], b[51]);
-    let w13 = word(b[52], b[53], b[54], b[55]);
-    let w14 = word(b[56], b[57], b[58], b[59]);
-    let w15 = word(b[60], b[61], b[62], b[63]);
-    [
-        w0, w1, w2, w3, w4, w5, w6, w7, w8, w9, w10, w11, w12, w13, w14, w15,
-    ]
+    std::array::from_fn(|i| word(b[4 * i], b[4 * i + 1], b[4 * i + 2], b[4 * i + 3]))
 }
 
 // The word of four bytes, the highest first.
@@ -153,7 +135,8 @@ fn word(a: u8, b: u8, c: u8, d: u8) -> u32
     u32::from_be_bytes([a, b, c, d])
 }
 
-// The bytes of eight words, the highest byte of each first.
+// The bytes of eight words, the highest byte of each first. They are written out: of `from_fn` over the 32 bytes the
+// proof did not close, at the check's limit of steps.
 pub fn state_bytes(s: [u32; 8]) -> [u8; 32]
     ensures { result ≡ bytes s }
 {

@@ -67,9 +67,8 @@ impl Hasher {
         requires { (self.old.filled ≡ 0) × (length blocks.now % 64 ≡ 0) }
         ensures { (bs : List ℕ) → Hashes self.old bs → Hashes self.new (bs ++ blocks.now) }
     {
-        for i in 0..blocks.len() / 64 {
-            let at = 64 * i;
-            self.absorb(&blocks[at..at + 64]);
+        for block in blocks.chunks_exact(64) {
+            self.absorb(block);
         }
     }
 
