@@ -21,6 +21,15 @@ whole w h =
     joins (w / 16777216 % 256) (w / 65536 % 256) (w / 256 % 256) (w % 256) (w / 65536) (w / 256) w
     (top (w / 65536) (w / 16777216) b (omega arith)) (low (w / 256) (w / 65536) a) (low w (w / 256) refl)
 
+-- the low three bytes of x and the high byte of y
+pub joined_word : (x y a b r : ℕ) → a ≡ x * 2 ^ 8 % 2 ^ 32 → b ≡ y / 2 ^ 24 → b * 2 ^ 24 < 2 ^ 32 → r ≡ (a + b) % 2 ^ 32
+    → x / 65536 % 256 * 16777216 + x / 256 % 256 * 65536 + x % 256 * 256 + y / 16777216 % 256 ≡ r
+joined_word x y a b r ea eb h er =
+    let p : x / 65536 % 256 * 16777216 + x / 256 % 256 * 65536 + x % 256 * 256 ≡ a = omega arith in
+    let q : y / 16777216 % 256 ≡ b = omega arith in
+    let s : a + b < 4294967296 = omega arith in
+    omega arith
+
 abbrev message : List ℕ → ℕ → ℕ → List ℕ → List ℕ
 message id q ij t = bytes id ++ (bytes (q ∷ []) ++ ((ij / 65536 % 256) ∷ (ij / 256 % 256) ∷ (ij % 256) ∷ bytes t))
 

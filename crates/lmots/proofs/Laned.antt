@@ -6,13 +6,6 @@ use Rattle.octets.specs.Numbers.{u32}
 use Rattle.lmots.specs.LmOts.{step, steps}
 use Rattle.lmots.proofs.Stepping.{none, first, is_step}
 
-pub joined_word : (x y : ℕ) → y < 2 ^ 32 → x / 65536 % 256 * 16777216 + x / 256 % 256 * 65536 + x % 256 * 256 + y / 16777216 % 256 ≡ (x * 2 ^ 8 % 2 ^ 32 + y / 2 ^ 24) % 2 ^ 32
-joined_word x y h =
-    let a : x / 65536 % 256 * 16777216 + x / 256 % 256 * 65536 + x % 256 * 256 ≡ x * 256 % 4294967296 = omega arith in
-    let b : y / 16777216 % 256 ≡ y / 16777216 = omega arith in
-    let d : x * 256 % 4294967296 + y / 16777216 < 4294967296 = omega arith in
-    omega arith
-
 -- a lane is taken where k is below s, and kept elsewhere
 pub taken : (k s new old : ℕ) → k < s → cond (top 31 (cond (ltb k s) 4294967295 0)) new old ≡ new
 taken k s new old h = ap (λ b. cond (top 31 (cond b 4294967295 0)) new old) (lt-ltb k s h)

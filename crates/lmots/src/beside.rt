@@ -2,37 +2,38 @@
 ghost use Rattle.std.specs.Prelude.{◌≡◌, ◌<◌};
 ghost use Rattle.sha256_lanes.specs.Lane.{lane};
 
+use sha256_lanes::Lanes;
 use std::simd::prelude::*;
 
 // Four values, a lane to each.
-pub(crate) fn beside(a: [u32; 8], b: [u32; 8], c: [u32; 8], d: [u32; 8]) -> [u32x4; 8]
+pub(crate) fn beside(a: [u32; 8], b: [u32; 8], c: [u32; 8], d: [u32; 8]) -> [Lanes; 8]
     ensures { (lane 0 result ≡ a) × (lane 1 result ≡ b) × (lane 2 result ≡ c) × (lane 3 result ≡ d) }
 {
     [
-        u32x4::from_array([a[0], b[0], c[0], d[0]]),
-        u32x4::from_array([a[1], b[1], c[1], d[1]]),
-        u32x4::from_array([a[2], b[2], c[2], d[2]]),
-        u32x4::from_array([a[3], b[3], c[3], d[3]]),
-        u32x4::from_array([a[4], b[4], c[4], d[4]]),
-        u32x4::from_array([a[5], b[5], c[5], d[5]]),
-        u32x4::from_array([a[6], b[6], c[6], d[6]]),
-        u32x4::from_array([a[7], b[7], c[7], d[7]]),
+        Lanes(u32x4::from_array([a[0], b[0], c[0], d[0]])),
+        Lanes(u32x4::from_array([a[1], b[1], c[1], d[1]])),
+        Lanes(u32x4::from_array([a[2], b[2], c[2], d[2]])),
+        Lanes(u32x4::from_array([a[3], b[3], c[3], d[3]])),
+        Lanes(u32x4::from_array([a[4], b[4], c[4], d[4]])),
+        Lanes(u32x4::from_array([a[5], b[5], c[5], d[5]])),
+        Lanes(u32x4::from_array([a[6], b[6], c[6], d[6]])),
+        Lanes(u32x4::from_array([a[7], b[7], c[7], d[7]])),
     ]
 }
 
 // The value in a lane.
-pub(crate) fn lane_of(values: [u32x4; 8], j: usize) -> [u32; 8]
+pub(crate) fn lane_of(values: [Lanes; 8], j: usize) -> [u32; 8]
     requires { j < 4 }
     ensures { result ≡ lane j values }
 {
     [
-        values[0].to_array()[j],
-        values[1].to_array()[j],
-        values[2].to_array()[j],
-        values[3].to_array()[j],
-        values[4].to_array()[j],
-        values[5].to_array()[j],
-        values[6].to_array()[j],
-        values[7].to_array()[j],
+        values[0].0.to_array()[j],
+        values[1].0.to_array()[j],
+        values[2].0.to_array()[j],
+        values[3].0.to_array()[j],
+        values[4].0.to_array()[j],
+        values[5].0.to_array()[j],
+        values[6].0.to_array()[j],
+        values[7].0.to_array()[j],
     ]
 }

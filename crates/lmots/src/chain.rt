@@ -1,48 +1,72 @@
 // Chains of hashes.
-ghost use Rattle.std.specs.Prelude.{◌≡◌, ◌+◌, ◌*◌, ◌/◌, ◌%◌, ◌<◌, [], ◌∷◌, ◌++◌};
-ghost use Rattle.sha256.specs.Sha256.{bytes, sha256};
+ghost use Rattle.std.specs.Prelude.{◌≡◌, ℕ, ◌+◌, ◌*◌, ◌/◌, ◌%◌, ◌<◌, [], ◌∷◌, ◌++◌};
+ghost use Rattle.sha256.specs.Lane.{lane};
+ghost use Rattle.sha256.specs.Sha256.{IV, bytes, sha256};
 ghost use Rattle.lmots.specs.LmOts.{x as beginning};
 
 use crate::leaf::Leaf;
 use sha256::block;
+use sha256::word::Word;
 
-// The low three bytes of `a` and the high byte of `b`.
-fn joint(a: u32, b: u32) -> u32
-    ensures { (a / 65536 % 256) * 16777216 + (a / 256 % 256) * 65536 + (a % 256) * 256 + b / 16777216 % 256 ≡ result }
+// In each lane the low three bytes of `a` and the high byte of `b`.
+fn joint<W: Word>(a: W, b: W) -> W
+    ensures { (j : ℕ) → j < W.lanes → (W.at a j / 65536 % 256) * 16777216 + (W.at a j / 256 % 256) * 65536 + (W.at a j % 256) * 256 + W.at b j / 16777216 % 256 ≡ W.at result j }
 {
-    (a << 8) + (b >> 24)
+    a.shift_left(8).plus(b.shift_right(24))
 }
 
-// A word is its four bytes.
-fn kept(w: u32) -> u32
-    ensures { w / 16777216 % 256 * 16777216 + w / 65536 % 256 * 65536 + w / 256 % 256 * 256 + w % 256 ≡ result }
+// A word in each lane. It is its four bytes.
+fn spread<W: Word>(w: u32) -> W
+    ensures is { (j : ℕ) → j < W.lanes → W.at result j ≡ w }
+    ensures kept { (j : ℕ) → j < W.lanes → w / 16777216 % 256 * 16777216 + w / 65536 % 256 * 65536 + w / 256 % 256 * 256 + w % 256 ≡ W.at result j }
 {
-    w
+    W::splat(w)
 }
 
-// The hash of a leaf's identifier and number, three bytes `tag` and t: 55 bytes, which are one block.
-fn step(leaf: Leaf, tag: u32, t: [u32; 8]) -> [u32; 8]
-    ensures { bytes result ≡ sha256 (bytes leaf.id ++ (bytes (leaf.number ∷ []) ++ ((tag / 65536 % 256) ∷ (tag / 256 % 256) ∷ (tag % 256) ∷ bytes t))) }
+// The hash value that the first block is worked on with, in each lane. It is written out: of an array's `map` by a
+// function that makes a W of a number, the check reads no proof.
+fn initial<W: Word>() -> [W; 8]
+    ensures { (j : ℕ) → j < W.lanes → lane W.at j result ≡ IV }
 {
-    let k0 = kept(leaf.id[0]);
-    let k1 = kept(leaf.id[1]);
-    let k2 = kept(leaf.id[2]);
-    let k3 = kept(leaf.id[3]);
-    let k4 = kept(leaf.number);
-    let w5 = joint(tag, t[0]);
-    let w6 = joint(t[0], t[1]);
-    let w7 = joint(t[1], t[2]);
-    let w8 = joint(t[2], t[3]);
-    let w9 = joint(t[3], t[4]);
-    let w10 = joint(t[4], t[5]);
-    let w11 = joint(t[5], t[6]);
-    let w12 = joint(t[6], t[7]);
+    let [a, b, c, d, e, f, g, h] = block::INITIAL;
+    [
+        W::splat(a),
+        W::splat(b),
+        W::splat(c),
+        W::splat(d),
+        W::splat(e),
+        W::splat(f),
+        W::splat(g),
+        W::splat(h),
+    ]
+}
+
+// In each lane the hash of a leaf's identifier and number, three bytes of `tag` and t: 55 bytes, which are one block.
+pub(crate) fn step<W: Word>(leaf: Leaf, tag: W, t: [W; 8]) -> [W; 8]
+    ensures { (j : ℕ) → j < W.lanes → bytes (lane W.at j result) ≡ sha256 (bytes leaf.id ++ (bytes (leaf.number ∷ []) ++ ((W.at tag j / 65536 % 256) ∷ (W.at tag j / 256 % 256) ∷ (W.at tag j % 256) ∷ bytes (lane W.at j t)))) }
+{
+    let [t0, t1, t2, t3, t4, t5, t6, t7] = t;
     // the padding begins behind t, and 440 bits are hashed
-    let w13 = joint(t[7], 0x8000_0000);
+    let pad = spread(0x8000_0000);
     let message = [
-        k0, k1, k2, k3, k4, w5, w6, w7, w8, w9, w10, w11, w12, w13, 0, 440,
+        spread(leaf.id[0]),
+        spread(leaf.id[1]),
+        spread(leaf.id[2]),
+        spread(leaf.id[3]),
+        spread(leaf.number),
+        joint(tag, t0),
+        joint(t0, t1),
+        joint(t1, t2),
+        joint(t2, t3),
+        joint(t3, t4),
+        joint(t4, t5),
+        joint(t5, t6),
+        joint(t6, t7),
+        joint(t7, pad),
+        spread(0),
+        spread(440),
     ];
-    block::compress(block::INITIAL, message)
+    block::compress(initial(), message)
 }
 
 // Where chain i begins: x(i).

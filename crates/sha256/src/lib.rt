@@ -6,6 +6,7 @@ ghost use Rattle.sha256.specs.Sha256.{sha256};
 
 pub mod block;
 pub mod hasher;
+pub mod word;
 
 use hasher::Hasher;
 

@@ -1,10 +1,18 @@
 // Hashing a message that comes in parts.
 ghost use Rattle.std.specs.Prelude.{◌≡◌, ℕ, ◌+◌, ◌%◌, List, [], ◌∷◌, ◌++◌, length};
 ghost use Rattle.sha256.specs.Hashed.{Hashes};
-ghost use Rattle.sha256.specs.Sha256.{sha256};
+ghost use Rattle.sha256.specs.Sha256.{compress, words, sha256};
 
 use crate::block;
 use crate::hasher::Hasher;
+
+// The hash value after a whole block.
+fn after_block(state: [u32; 8], block: &[u8]) -> [u32; 8]
+    requires { length block.now ≡ 64 }
+    ensures { result ≡ compress state (words block.now) }
+{
+    block::compress(state, block::block_words(block))
+}
 
 impl Hasher {
     // A hasher that was given no bytes.
@@ -27,7 +35,7 @@ impl Hasher {
         self.block[self.filled] = b;
         self.total = self.total.wrapping_add(1);
         if self.filled == 63 {
-            self.state = block::compress(self.state, block::block_words(&self.block));
+            self.state = after_block(self.state, &self.block);
             self.filled = 0;
         } else {
             self.filled += 1;
@@ -50,7 +58,7 @@ impl Hasher {
         ensures hashes { (bs : List ℕ) → Hashes self.old bs → Hashes self.new (bs ++ whole.now) }
         ensures filled { self.new.filled ≡ 0 }
     {
-        self.state = block::compress(self.state, block::block_words(whole));
+        self.state = after_block(self.state, whole);
         self.total = self.total.wrapping_add(64);
     }
 
@@ -59,9 +67,8 @@ impl Hasher {
         requires { (self.old.filled ≡ 0) × (length blocks.now % 64 ≡ 0) }
         ensures { (bs : List ℕ) → Hashes self.old bs → Hashes self.new (bs ++ blocks.now) }
     {
-        for i in 0..blocks.len() / 64 {
-            let at = 64 * i;
-            self.absorb(&blocks[at..at + 64]);
+        for block in blocks.chunks_exact(64) {
+            self.absorb(block);
         }
     }
 

@@ -16,7 +16,7 @@ loop-k-init c j i a n l hi hn ht hs =
 pub loop-k-preserved : goal.loop-k-preserved
 loop-k-preserved c j i a n l hi hn ht hs =
     let k = c.loop-k.k in
-    lane_on sha256 (bytes c.args.leaf.id) c.args.leaf.number i a n k (get_or c.args.tags j 0) (get_or c.tagged-now.result j 0) _ _ _ _ hi hn ht
+    lane_on sha256 (bytes c.args.leaf.id) c.args.leaf.number i a n k (get_or c.args.tags.0 j 0) (get_or c.tagged-now.result.0 j 0) _ _ _ _ hi hn ht
     (c.tagged-now.ensures j l) (c.step-next.ensures j l)
     (λ h. ap bytes (c.chosen_words-values.ensures.going j l (omega arith)))
     (λ h. ap bytes (c.chosen_words-values.ensures.done j l (omega arith)))

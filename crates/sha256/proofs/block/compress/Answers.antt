@@ -1,17 +1,18 @@
-use Rattle.std.proofs.Common.{◌≡◌, length, get_or, sym, ap, ◌∙◌, arith}
-use Rattle.sha256.specs.Sha256.{sums}
-use Rattle.sha256.proofs.Rounds.{compress_is, listed, at}
+use Rattle.std.proofs.Common.{rules, ◌≡◌, length, arith}
+use Rattle.sha256.proofs.Rounds.{compressed, IsSum}
 use Rattle.sha256.proofs.block.compress.Goals as goal
 
 pub returns : goal.returns
-returns c =
+returns g c j l =
     let hh : length c.args.h ≡ 8 = omega arith in
-    let hm : length c.args.m ≡ 16 = omega arith in
-    let hs : length c.sixteen_rounds-s4.result ≡ 8 = omega arith in
-    sym (ap (λ x. sums x (at (λ i. get_or c.sixteen_rounds-s4.result i 0) 0 8)) (listed 8 c.args.h hh))
-    ∙ sym (ap (sums c.args.h) (listed 8 c.sixteen_rounds-s4.result hs))
-    ∙ compress_is _ _ _ _ _ _ _ _ _ hm
-    c.sixteen_rounds-s1.ensures c.next_sixteen-m1.ensures
-    c.sixteen_rounds-s2.ensures c.next_sixteen-m2.ensures
-    c.sixteen_rounds-s3.ensures c.next_sixteen-m3.ensures
-    c.sixteen_rounds-s4.ensures
+    let hs : length c.rounds-s.result ≡ 8 = omega arith in
+    let e0 : IsSum g.W.Word.at j c.args.h c.rounds-s.result c.from_fn.result 0 = search rules in
+    let e1 : IsSum g.W.Word.at j c.args.h c.rounds-s.result c.from_fn.result 1 = search rules in
+    let e2 : IsSum g.W.Word.at j c.args.h c.rounds-s.result c.from_fn.result 2 = search rules in
+    let e3 : IsSum g.W.Word.at j c.args.h c.rounds-s.result c.from_fn.result 3 = search rules in
+    let e4 : IsSum g.W.Word.at j c.args.h c.rounds-s.result c.from_fn.result 4 = search rules in
+    let e5 : IsSum g.W.Word.at j c.args.h c.rounds-s.result c.from_fn.result 5 = search rules in
+    let e6 : IsSum g.W.Word.at j c.args.h c.rounds-s.result c.from_fn.result 6 = search rules in
+    let e7 : IsSum g.W.Word.at j c.args.h c.rounds-s.result c.from_fn.result 7 = search rules in
+    compressed g.W.Word.at j c.args.h c.rounds-s.result c.from_fn.result _ _ hh hs c.from_fn.ensures.items.long
+    e0 e1 e2 e3 e4 e5 e6 e7 (c.schedule.ensures j l) (c.rounds-s.ensures j l)

@@ -4,4 +4,4 @@ use Rattle.sha256.proofs.block.schedule_word.Goals as goal
 
 pub returns : goal.returns
 unfolding scheduled
-returns c = search rules
+returns g c j l = search rules

@@ -4,4 +4,4 @@ use Rattle.sha256.proofs.block.temp2.Goals as goal
 
 pub returns : goal.returns
 unfolding T2
-returns c = search rules
+returns g c j l = search rules
