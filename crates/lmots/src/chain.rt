@@ -12,7 +12,7 @@ use sha256::word::Word;
 fn joint<W: Word>(a: W, b: W) -> W
     ensures { (j : ℕ) → j < W.lanes → (W.at a j / 65536 % 256) * 16777216 + (W.at a j / 256 % 256) * 65536 + (W.at a j % 256) * 256 + W.at b j / 16777216 % 256 ≡ W.at result j }
 {
-    a.shift_left(8).plus(b.shift_right(24))
+    a.wrapping_shl(8).plus(b.wrapping_shr(24))
 }
 
 // A word in each lane. It is its four bytes.

@@ -12,11 +12,11 @@ fn schedule_word<W: Word>(w2: W, w7: W, w15: W, w16: W) -> W
     let sigma1 = w2
         .rotate_right(17)
         .xor(w2.rotate_right(19))
-        .xor(w2.shift_right(10));
+        .xor(w2.wrapping_shr(10));
     let sigma0 = w15
         .rotate_right(7)
         .xor(w15.rotate_right(18))
-        .xor(w15.shift_right(3));
+        .xor(w15.wrapping_shr(3));
     sigma1.plus(w7).plus(sigma0).plus(w16)
 }
 

@@ -1,8 +1,9 @@
 // A word of 32 bits, or one of each of several hashes that are worked on at once, each in a lane of its own.
 ghost use Rattle.std.specs.Prelude.{◌≡◌, ℕ, ◌-◌, ◌*◌, ◌/◌, ◌%◌, ◌^◌, ◌<◌, bit_and, bit_xor};
 ghost use Rattle.std.proofs.Common.{lit<};
+ghost use Rattle.std.specs.Int.{rotate_right, w32};
 ghost use Rattle.std.specs.Mem.{type_size};
-ghost use Rattle.sha256.specs.Sha256.{◌⊞◌, rotr};
+ghost use Rattle.sha256.specs.Sha256.{◌⊞◌};
 
 pub trait Word: Copy {
     // How many hashes are worked on at once.
@@ -28,19 +29,17 @@ pub trait Word: Copy {
     fn not(self) -> Self
         ensures { (j : ℕ) → j < lanes → at result j ≡ 2 ^ 32 - 1 - at self j };
 
+    // Counts of bits are taken modulo 32.
     fn rotate_right(self, n: u32) -> Self
-        requires { (0 < n) × (n < 32) }
-        ensures { (j : ℕ) → j < lanes → at result j ≡ rotr n (at self j) };
+        ensures { (j : ℕ) → j < lanes → at result j ≡ rotate_right w32 (at self j) n };
 
     // Each lane times a power of two, and what leaves the word is lost.
-    fn shift_left(self, n: u32) -> Self
-        requires { n < 32 }
-        ensures { (j : ℕ) → j < lanes → at result j ≡ at self j * 2 ^ n % 2 ^ 32 };
+    fn wrapping_shl(self, n: u32) -> Self
+        ensures { (j : ℕ) → j < lanes → at result j ≡ at self j * 2 ^ (n % 32) % 2 ^ 32 };
 
-    fn shift_right(self, n: u32) -> Self
-        requires { n < 32 }
-        ensures is { (j : ℕ) → j < lanes → at result j ≡ at self j / 2 ^ n }
-        ensures small { (j : ℕ) → j < lanes → at result j * 2 ^ n < 2 ^ 32 };
+    fn wrapping_shr(self, n: u32) -> Self
+        ensures is { (j : ℕ) → j < lanes → at result j ≡ at self j / 2 ^ (n % 32) }
+        ensures small { (j : ℕ) → j < lanes → at result j * 2 ^ (n % 32) < 2 ^ 32 };
 
     // So arrays of words fit in memory.
     ghost small: { type_size Self.row < 2 ^ 32 };
@@ -85,12 +84,12 @@ impl Word for u32 {
     }
 
     #[inline(always)]
-    fn shift_left(self, n: u32) -> u32 {
-        self << n
+    fn wrapping_shl(self, n: u32) -> u32 {
+        self.wrapping_shl(n)
     }
 
     #[inline(always)]
-    fn shift_right(self, n: u32) -> u32 {
-        self >> n
+    fn wrapping_shr(self, n: u32) -> u32 {
+        self.wrapping_shr(n)
     }
 }

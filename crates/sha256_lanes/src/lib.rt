@@ -45,17 +45,18 @@ impl Word for Lanes {
 
     #[inline(always)]
     fn rotate_right(self, n: u32) -> Lanes {
-        Lanes((self.0 >> u32x4::splat(n)) | (self.0 << u32x4::splat(32 - n)))
+        let n = n % 32;
+        Lanes((self.0 >> u32x4::splat(n)) | (self.0 << u32x4::splat((32 - n) % 32)))
     }
 
     #[inline(always)]
-    fn shift_left(self, n: u32) -> Lanes {
-        Lanes(self.0 << u32x4::splat(n))
+    fn wrapping_shl(self, n: u32) -> Lanes {
+        Lanes(self.0 << u32x4::splat(n % 32))
     }
 
     #[inline(always)]
-    fn shift_right(self, n: u32) -> Lanes {
-        Lanes(shifted_right(self.0, n))
+    fn wrapping_shr(self, n: u32) -> Lanes {
+        Lanes(shifted_right(self.0, n % 32))
     }
 }
 

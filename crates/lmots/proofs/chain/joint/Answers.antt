@@ -3,4 +3,4 @@ use Rattle.lmots.proofs.chain.joint.Goals as goal
 
 pub returns : goal.returns
 returns g c j l =
-    joined_word (g.W.Word.at c.args.a j) (g.W.Word.at c.args.b j) _ _ _ (c.shift_left.ensures j l) (c.shift_right.ensures.is j l) (c.shift_right.ensures.small j l) (c.plus.ensures j l)
+    joined_word (g.W.Word.at c.args.a j) (g.W.Word.at c.args.b j) _ _ _ (c.wrapping_shl.ensures j l) (c.wrapping_shr.ensures.is j l) (c.wrapping_shr.ensures.small j l) (c.plus.ensures j l)

@@ -1,6 +1,6 @@
 use Rattle.std.proofs.Common.{◌≡◌, length, refl, arith}
 use Rattle.sha256_lanes.proofs.Four.{below4, listed4}
-use Rattle.sha256_lanes.proofs.LanesWord.shift_left.Goals as goal
+use Rattle.sha256_lanes.proofs.LanesWord.wrapping_shl.Goals as goal
 
 pub returns : goal.returns
 returns c =
