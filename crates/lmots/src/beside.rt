@@ -5,7 +5,7 @@ ghost use Rattle.sha256_lanes.specs.Lane.{lane};
 use sha256_lanes::Lanes;
 use std::simd::prelude::*;
 
-// Four values, a lane to each.
+// Four values, a lane to each. They are written out: of `from_fn` the search left the goal open.
 pub(crate) fn beside(a: [u32; 8], b: [u32; 8], c: [u32; 8], d: [u32; 8]) -> [Lanes; 8]
     ensures { (lane 0 result ≡ a) × (lane 1 result ≡ b) × (lane 2 result ≡ c) × (lane 3 result ≡ d) }
 {
@@ -26,14 +26,5 @@ pub(crate) fn lane_of(values: [Lanes; 8], j: usize) -> [u32; 8]
     requires { j < 4 }
     ensures { result ≡ lane j values }
 {
-    [
-        values[0].0.to_array()[j],
-        values[1].0.to_array()[j],
-        values[2].0.to_array()[j],
-        values[3].0.to_array()[j],
-        values[4].0.to_array()[j],
-        values[5].0.to_array()[j],
-        values[6].0.to_array()[j],
-        values[7].0.to_array()[j],
-    ]
+    std::array::from_fn(|i| values[i].0.to_array()[j])
 }

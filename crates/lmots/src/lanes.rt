@@ -20,7 +20,7 @@ fn chosen(steps: u32x4, k: u32, next: Lanes, t: Lanes) -> Lanes
     Lanes(steps.simd_gt(u32x4::splat(k)).select(next.0, t.0))
 }
 
-// The same of eight words.
+// The same of eight words. They are written out: of `from_fn` the search left the goal open.
 fn chosen_words(steps: u32x4, k: u32, next: [Lanes; 8], t: [Lanes; 8]) -> [Lanes; 8]
     ensures going { (j : ℕ) → j < 4 → k < slice_index steps j → lane j result ≡ lane j next }
     ensures done { (j : ℕ) → j < 4 → slice_index steps j ≤ k → lane j result ≡ lane j t }

@@ -16,26 +16,14 @@ pub(crate) fn words_at(s: &[u8], at: usize) -> [u32; 8]
     requires { at + 32 ≤ length s.now }
     ensures { bytes result ≡ cut at 32 s.now }
 {
-    let w0 = word_at(s, at);
-    let w1 = word_at(s, at + 4);
-    let w2 = word_at(s, at + 8);
-    let w3 = word_at(s, at + 12);
-    let w4 = word_at(s, at + 16);
-    let w5 = word_at(s, at + 20);
-    let w6 = word_at(s, at + 24);
-    let w7 = word_at(s, at + 28);
-    [w0, w1, w2, w3, w4, w5, w6, w7]
+    std::array::from_fn(|i| word_at(s, at + 4 * i))
 }
 
 // The words of an identifier.
 pub fn id_words(id: &[u8; 16]) -> [u32; 4]
     ensures { bytes result ≡ id.now }
 {
-    let w0 = word_at(id, 0);
-    let w1 = word_at(id, 4);
-    let w2 = word_at(id, 8);
-    let w3 = word_at(id, 12);
-    [w0, w1, w2, w3]
+    std::array::from_fn(|i| word_at(id, 4 * i))
 }
 
 // The words of a seed.
