@@ -1,6 +1,11 @@
 // The calls of hashes, keys and signatures.
-ghost use Rattle.std.specs.Prelude.{◌≡◌, ◌++◌, OnOk};
-ghost use Rattle.console.specs.Answers.{hashed, checked};
+ghost use Rattle.std.specs.Prelude.{◌≡◌, ◌++◌, OnOk, Some};
+ghost use Rattle.std.specs.HashMap.{Updates};
+ghost use Rattle.std.specs.declared.boxed.Box.{Box};
+ghost use Rattle.std.specs.declared.alloc.Global.{Global};
+ghost use Rattle.hash_based.specs.Joined.{word_of, public_of};
+ghost use Rattle.hash_based.specs.declared.secret.HashBasedSecret.{HashBasedSecret};
+ghost use Rattle.console.specs.Answers.{hashed, checked, made};
 
 use hash_based::HashBased;
 use hash_based::secret::HashBasedSecret;
@@ -59,13 +64,12 @@ impl Keys {
     }
 
     // key ID KEYTYPE TYPE I SEED
-    pub fn make(&mut self, call: KeyCall, answer: &mut Answer) -> Result<(), Trouble> {
-        let secret = secret_of(&call)?;
-        answer.text("public ")?;
-        answer.raw(HashBased.keytype_of(&secret))?;
-        answer.text(" ")?;
-        answer.hex_line(HashBased.public_key(&secret))?;
-        let secret = Box::new(self.heap, secret)?;
+    pub fn make(&mut self, call: KeyCall, answer: &mut Answer) -> Result<(), Trouble>
+        // the key whose public key is told is the one that is kept
+        ensures { OnOk result ((kept : Box HashBasedSecret Global) × Updates ⟦<Vec<u8> as PartialEq>⟧.eq self.old.secrets self.new.secrets call.id (Some kept) × (answer.new ≡ answer.old ++ made (word_of kept.value) (public_of kept.value))) }
+    {
+        let secret = Box::new(self.heap, secret_of(&call)?)?;
+        tell(&secret, answer)?;
         self.secrets.insert(call.id, secret)?;
         Ok(())
     }
@@ -91,6 +95,16 @@ impl Keys {
         }
         Ok(())
     }
+}
+
+// The keytype and the public key of a secret.
+fn tell(secret: &HashBasedSecret, answer: &mut Answer) -> Result<(), AllocError>
+    ensures { OnOk result (answer.new ≡ answer.old ++ made (word_of secret.now) (public_of secret.now)) }
+{
+    answer.text("public ")?;
+    answer.raw(HashBased.keytype_of(secret))?;
+    answer.text(" ")?;
+    answer.hex_line(HashBased.public_key(secret))
 }
 
 // The secret of a keytype, the number of a type, an identifier and a seed.

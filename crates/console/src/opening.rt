@@ -1,4 +1,7 @@
 // The calls that open a store.
+ghost use Rattle.std.specs.Prelude.{◌≡◌, ◌++◌, IfOk, OnSome, codes};
+ghost use Rattle.language.specs.Writing.{line_of};
+
 use language::answer::Answer;
 use language::call::OpenCall;
 use line_store::LineStore;
@@ -14,13 +17,15 @@ pub enum Opening {
 }
 
 // Makes memory ready, and tries a text in it, so that a refusal leaves the open store as it is.
-pub fn open(call: OpenCall, answer: &mut Answer) -> Result<Option<Opening>, AllocError> {
+pub fn open(call: OpenCall, answer: &mut Answer) -> Result<Option<Opening>, AllocError>
+    ensures { IfOk result (λ opening. OnSome opening (answer.new ≡ answer.old ++ line_of (codes "opened"))) }
+{
     let mut opening = memory(answer.heap(), call)?;
-    if let Opening::Line { buffer, used } = &mut opening {
-        if let Err(refusal) = LineStore::new(buffer.as_mut_slice()).open(*used) {
-            answer.refused(u8::from(refusal))?;
-            return Ok(None);
-        }
+    if let Opening::Line { buffer, used } = &mut opening
+        && let Err(refusal) = LineStore::new(buffer.as_mut_slice()).open(*used)
+    {
+        answer.refused(u8::from(refusal))?;
+        return Ok(None);
     }
     answer.line("opened")?;
     Ok(Some(opening))

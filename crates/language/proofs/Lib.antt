@@ -1,3 +1,4 @@
+pub mod Stops
 pub mod Named
 pub mod Worded
 mod Decimals

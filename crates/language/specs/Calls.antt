@@ -1,7 +1,10 @@
 -- What each call is written as: its name, and a word for each of its arguments.
-use Rattle.std.specs.Prelude.{◌≡◌, ℕ, Bool, true, List, [], ◌∷◌, ◌==◌, drop, vec_items, Vec, Some, None, Ok, Option}
+use Rattle.std.specs.Prelude.{◌<◌, length, ⊤, Err, ◌≡◌, ℕ, Bool, true, List, [], ◌∷◌, ◌==◌, drop, vec_items, Vec, Some, None, Ok, Option}
 use Rattle.std.specs.declared.alloc.Global.{Global}
-use Rattle.language.specs.declared.mistake.Trouble.TheVariants.{Script}
+use Rattle.language.specs.declared.mistake.Trouble.{Trouble}
+use Rattle.language.specs.declared.mistake.Trouble.TheVariants.{Script, Memory}
+use Rattle.language.specs.declared.mistake.Mistake.{Mistake}
+use Rattle.language.specs.declared.mistake.Mistake.TheVariants.{ExtraWord}
 use Rattle.language.specs.declared.verb.Verb.{Verb}
 use Rattle.language.specs.declared.verb.Verb.TheVariants as verb
 use Rattle.language.specs.declared.verb.Kind.{Kind}
@@ -79,6 +82,67 @@ arguments (Check c) = bytes c.keytype ∷ bytes c.public ∷ bytes c.message ∷
 arguments Text = []
 arguments (Store c) = store_arguments c
 
+-- what a word has to be: bytes, or a number, or one of these unless it is missing
+pub data Want : Type 0 where
+  some_bytes : Want
+  some_number : Want
+  bytes_or_none : Want
+  number_or_none : Want
+
+-- the first of the words is what is wanted
+abbrev pub Serves : Want → List (List ℕ) → Type 0
+Serves some_bytes ws = (b : Vec ℕ Global) × ReadsWord Script ws IsSpelling (Ok b)
+Serves some_number ws = (n : ℕ) × ReadsWord (λ m. m) ws IsNumber (Ok n)
+Serves bytes_or_none [] = ⊤
+Serves bytes_or_none (w ∷ ws) = (b : Vec ℕ Global) × ReadsWord Script (w ∷ ws) IsSpelling (Ok b)
+Serves number_or_none [] = ⊤
+Serves number_or_none (w ∷ ws) = (n : ℕ) × ReadsWord (λ m. m) (w ∷ ws) IsNumber (Ok n)
+
+-- the first of the words is not what is wanted, for this reason
+abbrev pub Fails : Want → List (List ℕ) → Trouble → Type 0
+Fails some_bytes ws t = ReadsWord {A = Vec ℕ Global} Script ws IsSpelling (Err t)
+Fails some_number ws (Script m) = ReadsWord (λ e. e) ws IsNumber (Err m)
+Fails some_number ws (Memory e) = ⊥
+Fails bytes_or_none [] t = ⊥
+Fails bytes_or_none (w ∷ ws) t = ReadsWord {A = Vec ℕ Global} Script (w ∷ ws) IsSpelling (Err t)
+Fails number_or_none [] t = ⊥
+Fails number_or_none (w ∷ ws) (Script m) = ReadsWord (λ e. e) (w ∷ ws) IsNumber (Err m)
+Fails number_or_none (w ∷ ws) (Memory e) = ⊥
+
+-- the first word that is not what is wanted gives the reason
+pub data StopsIn : List Want → List (List ℕ) → Trouble → Type 0 where
+  here : {a : Want} {more : List Want} {ws : List (List ℕ)} {t : Trouble} → Fails a ws t → StopsIn (a ∷ more) ws t
+  behind : {a : Want} {more : List Want} {ws : List (List ℕ)} {t : Trouble} → Serves a ws → StopsIn more (drop 1 ws) t → StopsIn (a ∷ more) ws t
+
+-- what a call wants behind its name; what `open` wants depends on the kind of store
+abbrev pub wants : Verb → List Want
+wants verb.Open = []
+wants verb.Hash = some_bytes ∷ []
+wants verb.Key = some_bytes ∷ some_bytes ∷ some_number ∷ some_bytes ∷ some_bytes ∷ []
+wants verb.Sign = some_bytes ∷ some_number ∷ some_bytes ∷ []
+wants verb.Check = some_bytes ∷ some_bytes ∷ some_bytes ∷ some_bytes ∷ []
+wants verb.Text = []
+wants verb.File = some_bytes ∷ some_bytes ∷ []
+wants verb.Get = some_bytes ∷ number_or_none ∷ []
+wants verb.Has = some_bytes ∷ []
+wants verb.Fits = some_number ∷ some_number ∷ []
+wants verb.Entries = []
+
+-- what `open` wants behind the kind of store
+abbrev pub open_wants : Kind → List Want
+open_wants kind.Line = some_number ∷ bytes_or_none ∷ []
+open_wants kind.Table = some_number ∷ some_number ∷ []
+
+-- `open` is not read, for this reason
+pub data OpenFails (ws : List (List ℕ)) : Trouble → Type 0 where
+  no_kind : {m : Mistake} → ReadsWord (λ e. e) ws KindNamed (Err m) → OpenFails ws (Script m)
+  of_kind : {t : Trouble} (k : Kind) → ReadsWord (λ e. e) ws KindNamed (Ok k) → StopsIn (open_wants k) (drop 1 ws) t → OpenFails ws t
+
+-- the call of this name is not read, for this reason
+abbrev pub CallFails : Verb → List (List ℕ) → Trouble → Type 0
+CallFails verb.Open ws t = OpenFails ws t
+CallFails v ws t = StopsIn (wants v) ws t
+
 -- an empty line, or a comment
 abbrev pub is_note : List ℕ → Bool
 is_note [] = true
@@ -88,3 +152,10 @@ is_note (x ∷ t) = x == 0x23
 abbrev pub Makes : Option Kind → List ℕ → Call → Type 0
 Makes k line Nothing = is_note line ≡ true
 Makes k line call = (v : Verb) × (barred v k ≡ None) × HasVerb call v × ReadsWord (λ m. m) (words_in line) VerbNamed (Ok v) × StandsFor (arguments call) (drop 1 (words_in line)) []
+
+-- a line makes no call while a store of this kind, or none, is open, for the reason that is met first, from the left: no call has that name, or it is barred, or an argument is not what is wanted, or a word is left
+pub data Refuses (k : Option Kind) (line : List ℕ) : Trouble → Type 0 where
+  no_call : {m : Mistake} → ReadsWord (λ e. e) (words_in line) VerbNamed (Err m) → Refuses k line (Script m)
+  is_barred : {m : Mistake} (v : Verb) → ReadsWord (λ e. e) (words_in line) VerbNamed (Ok v) → barred v k ≡ Some m → Refuses k line (Script m)
+  fails : {t : Trouble} (v : Verb) → ReadsWord (λ e. e) (words_in line) VerbNamed (Ok v) → barred v k ≡ None → CallFails v (drop 1 (words_in line)) t → Refuses k line t
+  goes_on : (v : Verb) (call : Call) (rest : List (List ℕ)) → ReadsWord (λ e. e) (words_in line) VerbNamed (Ok v) → barred v k ≡ None → HasVerb call v → StandsFor (arguments call) (drop 1 (words_in line)) rest → 0 < length rest → Refuses k line (Script ExtraWord)

@@ -1,7 +1,7 @@
 // The calls of a script, with what their words stand for.
-ghost use Rattle.std.specs.Prelude.{◌≡◌, true, IfOk, Ok};
+ghost use Rattle.std.specs.Prelude.{◌≡◌, true, IfOk, IfErr, Ok};
 ghost use Rattle.std.specs.Result.{result_err};
-ghost use Rattle.language.specs.Calls.{HasVerb, Makes, is_note, StandsFor, arguments, open_arguments};
+ghost use Rattle.language.specs.Calls.{HasVerb, StandsFor, arguments, open_arguments, StopsIn, wants, OpenFails, CallFails, is_note, Makes, Refuses};
 ghost use Rattle.language.specs.Names.{barred};
 
 use crate::mistake::{Mistake, Trouble};
@@ -68,6 +68,7 @@ pub enum StoreCall {
 // The call that a line makes while a store of this kind, or none, is open.
 pub fn read(heap: Global, line: &[u8], kind: Option<Kind>) -> Result<Call, Trouble>
     ensures call { IfOk result (Makes kind line.now) }
+    ensures refusal { IfErr result (Refuses kind line.now) }
     ensures note { is_note line.now ≡ true → result ≡ Ok Call.Nothing }
 {
     if let [] | [b'#', ..] = line {
@@ -96,7 +97,8 @@ fn allowed(verb: Verb, kind: Option<Kind>) -> Result<(), Mistake>
 
 // The call of this name, with what the words behind the name stand for.
 fn asked(verb: Verb, words: &mut Words) -> Result<Call, Trouble>
-    ensures { IfOk result (λ call. HasVerb call verb × StandsFor (arguments call) words.old words.new) }
+    ensures ok { IfOk result (λ call. HasVerb call verb × StandsFor (arguments call) words.old words.new) }
+    ensures err { IfErr result (CallFails verb words.old) }
 {
     Ok(match verb {
         Verb::Open => Call::Open(open(words)?),
@@ -131,7 +133,8 @@ fn asked(verb: Verb, words: &mut Words) -> Result<Call, Trouble>
 }
 
 fn open(words: &mut Words) -> Result<OpenCall, Trouble>
-    ensures { IfOk result (λ call. StandsFor (open_arguments call) words.old words.new) }
+    ensures ok { IfOk result (λ call. StandsFor (open_arguments call) words.old words.new) }
+    ensures err { IfErr result (OpenFails words.old) }
 {
     Ok(match words.kind()? {
         Kind::Line => OpenCall::Line {
@@ -146,7 +149,8 @@ fn open(words: &mut Words) -> Result<OpenCall, Trouble>
 }
 
 fn key(words: &mut Words) -> Result<KeyCall, Trouble>
-    ensures { IfOk result (λ call. StandsFor (arguments (Call.Key call)) words.old words.new) }
+    ensures ok { IfOk result (λ call. StandsFor (arguments (Call.Key call)) words.old words.new) }
+    ensures err { IfErr result (StopsIn (wants Verb.Key) words.old) }
 {
     Ok(KeyCall {
         id: words.bytes()?,
@@ -158,7 +162,8 @@ fn key(words: &mut Words) -> Result<KeyCall, Trouble>
 }
 
 fn check(words: &mut Words) -> Result<CheckCall, Trouble>
-    ensures { IfOk result (λ call. StandsFor (arguments (Call.Check call)) words.old words.new) }
+    ensures ok { IfOk result (λ call. StandsFor (arguments (Call.Check call)) words.old words.new) }
+    ensures err { IfErr result (StopsIn (wants Verb.Check) words.old) }
 {
     Ok(CheckCall {
         keytype: words.bytes()?,

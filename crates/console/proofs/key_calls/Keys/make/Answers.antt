@@ -1,0 +1,9 @@
+use Rattle.std.proofs.Common.{◌≡◌, ◌++◌, subst}
+use Rattle.hash_based.specs.Joined.{word_of, public_of}
+use Rattle.console.specs.Answers.{made}
+use Rattle.console.proofs.key_calls.Keys.make.Goals as goal
+
+pub returns : goal.returns
+returns c =
+    let told = subst (λ s. c.tell.new.answer ≡ c.args.answer.now ++ made (word_of s) (public_of s)) c.deref.ensures c.in_ok-tell.ensures in
+    (c.in_ok-secret.secret, c.in_ok-insert.ensures.updates, told)
