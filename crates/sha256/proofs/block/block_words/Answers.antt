@@ -1,4 +1,4 @@
-use Rattle.std.proofs.Common.{rules, ◌≡◌, ◌+◌, ◌*◌, length, get_or, ◌∙◌}
+use Rattle.std.proofs.Common.{rules, ◌≡◌, ◌+◌, ◌*◌, get_or, ◌∙◌}
 use Rattle.sha256.proofs.Hashing.{block_words_are}
 use Rattle.sha256.proofs.Rounds.{listed}
 use Rattle.sha256.proofs.block.block_words.Goals as goal
