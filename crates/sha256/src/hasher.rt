@@ -3,7 +3,8 @@ ghost use Rattle.std.specs.Prelude.{◌<◌};
 
 mod parts;
 
-// The hash value of the whole blocks so far, the block that is being filled, and how many bytes came.
+// The hash value of the whole blocks so far, the block that is being filled, and how many bytes came. The block is an
+// array with its length beside it, since hashing uses no heap.
 #[derive(Drop)]
 pub struct Hasher {
     state: [u32; 8],
