@@ -38,12 +38,6 @@ module _ (c : ℕ) (xs : List ℕ) where
   absent : length xs ≤ up_to c xs → position (λ x. x == c) xs ≡ None
   absent l = position_is c xs ∙ ap (λ b. cond b (Some (up_to c xs)) None) (le-ltb (up_to c xs) (length xs) l)
 
-  pub place_or_end : unwrap_or (position (λ x. x == c) xs) (length xs) ≡ up_to c xs
-  place_or_end = ⊎_elim
-      (λ (l : up_to c xs < length xs). ap (λ r. unwrap_or r (length xs)) (there l))
-      (λ (l : length xs ≤ up_to c xs). ap (λ r. unwrap_or r (length xs)) (absent l) ∙ (omega (arith, up_to_le c xs)))
-      (cases_lt (up_to c xs) (length xs))
-
   pub found_at : (i : ℕ) → Some i ≡ position (λ x. x == c) xs → (up_to c xs ≡ i) × (i < length xs)
   found_at i e = ⊎_elim
       (λ (l : up_to c xs < length xs). let s : up_to c xs ≡ i = ap (λ r. unwrap_or r 0) (sym (e ∙ there l)) in (s, omega arith))

@@ -5,4 +5,3 @@ pub mod buffer;
 pub mod hex;
 pub mod numbers;
 pub mod search;
-pub mod span;

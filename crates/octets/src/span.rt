@@ -1,6 +1,0 @@
-// A part of some bytes: from `start` up to, and without, `end`.
-#[derive(Clone, Copy, PartialEq, Eq, Debug)]
-pub struct Span {
-    pub start: usize,
-    pub end: usize,
-}
