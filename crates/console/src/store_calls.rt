@@ -93,6 +93,7 @@ fn entries<S: Store + Listing>(store: &S, answer: &mut Answer) -> Result<(), All
     let mut body = vec![in answer.heap(); 0; BODY_MAX]?;
     let mut name = [0; NAME_MAX];
     // by place: a store has no heap, so it writes each name into a buffer that it is lent
+    // the store tells where its entries end
     for index in 0..usize::MAX {
         let Some(name_len) = store.name_at(index, &mut name) else {
             break;

@@ -151,7 +151,7 @@ fn decoded(heap: Global, digits: &[u8]) -> Result<Vec<u8>, Trouble>
     ensures { Gives (coded_by digits.now) result }
 {
     if !hex::is_hex(digits) {
-        return Err(Trouble::Script(Mistake::NotHexadecimal));
+        return Err(Mistake::NotHexadecimal.into());
     }
     let mut bytes = vec![in heap; 0; digits.len() / 2]?;
     hex::read(bytes.as_mut_slice(), digits);

@@ -41,38 +41,40 @@ fn initial<W: Word>() -> [W; 8]
     ]
 }
 
-// In each lane the hash of a leaf's identifier and number, three bytes of `tag` and t: 55 bytes, which are one block.
-pub(crate) fn step<W: Word>(leaf: Leaf, tag: W, t: [W; 8]) -> [W; 8]
-    ensures { (j : ℕ) → j < W.lanes → bytes (lane W.at j result) ≡ sha256 (bytes leaf.id ++ (bytes (leaf.number ∷ []) ++ ((W.at tag j / 65536 % 256) ∷ (W.at tag j / 256 % 256) ∷ (W.at tag j % 256) ∷ bytes (lane W.at j t)))) }
-{
-    let [t0, t1, t2, t3, t4, t5, t6, t7] = t;
-    // the padding begins behind t, and 440 bits are hashed
-    let pad = spread(0x8000_0000);
-    let message = [
-        spread(leaf.id[0]),
-        spread(leaf.id[1]),
-        spread(leaf.id[2]),
-        spread(leaf.id[3]),
-        spread(leaf.number),
-        joint(tag, t0),
-        joint(t0, t1),
-        joint(t1, t2),
-        joint(t2, t3),
-        joint(t3, t4),
-        joint(t4, t5),
-        joint(t5, t6),
-        joint(t6, t7),
-        joint(t7, pad),
-        spread(0),
-        spread(440),
-    ];
-    block::compress(initial(), message)
-}
+impl Leaf {
+    // In each lane the hash of a leaf's identifier and number, three bytes of `tag` and t: 55 bytes, which are one block.
+    pub(crate) fn step<W: Word>(self, tag: W, t: [W; 8]) -> [W; 8]
+        ensures { (j : ℕ) → j < W.lanes → bytes (lane W.at j result) ≡ sha256 (bytes self.id ++ (bytes (self.number ∷ []) ++ ((W.at tag j / 65536 % 256) ∷ (W.at tag j / 256 % 256) ∷ (W.at tag j % 256) ∷ bytes (lane W.at j t)))) }
+    {
+        let [t0, t1, t2, t3, t4, t5, t6, t7] = t;
+        // the padding begins behind t, and 440 bits are hashed
+        let pad = spread(0x8000_0000);
+        let message = [
+            spread(self.id[0]),
+            spread(self.id[1]),
+            spread(self.id[2]),
+            spread(self.id[3]),
+            spread(self.number),
+            joint(tag, t0),
+            joint(t0, t1),
+            joint(t1, t2),
+            joint(t2, t3),
+            joint(t3, t4),
+            joint(t4, t5),
+            joint(t5, t6),
+            joint(t6, t7),
+            joint(t7, pad),
+            spread(0),
+            spread(440),
+        ];
+        block::compress(initial(), message)
+    }
 
-// Where chain i begins: x(i).
-pub(crate) fn start(leaf: Leaf, seed: [u32; 8], i: u32) -> [u32; 8]
-    requires { i < 65536 }
-    ensures { bytes result ≡ beginning sha256 (bytes leaf.id) leaf.number (bytes seed) i }
-{
-    step(leaf, i * 256 + 255, seed)
+    // Where chain i begins: x(i).
+    pub(crate) fn start(self, seed: [u32; 8], i: u32) -> [u32; 8]
+        requires { i < 65536 }
+        ensures { bytes result ≡ beginning sha256 (bytes self.id) self.number (bytes seed) i }
+    {
+        self.step(i * 256 + 255, seed)
+    }
 }

@@ -5,7 +5,6 @@ ghost use Rattle.sha256_lanes.specs.Lane.{lane};
 ghost use Rattle.lmots.specs.LmOts.{steps as steps_of};
 ghost use Rattle.lmots.specs.Runs.{blank};
 
-use crate::chain::step;
 use crate::leaf::Leaf;
 use crate::run::Run;
 use sha256::word::Word;
@@ -36,20 +35,6 @@ fn chosen_words(steps: u32x4, k: u32, next: [Lanes; 8], t: [Lanes; 8]) -> [Lanes
     [v0, v1, v2, v3, v4, v5, v6, v7]
 }
 
-// In each lane t after its own number of steps, which is at most `most`, from the step in its tag on.
-fn stepped(leaf: Leaf, tags: Lanes, steps: u32x4, most: u32, t: [Lanes; 8]) -> [Lanes; 8]
-    ensures { (j i a n : ℕ) → j < 4 → i < 65536 → a + n ≤ 255 → slice_index tags.0 j ≡ i * 256 + a → slice_index steps j ≡ n → n ≤ most → bytes (lane j result) ≡ steps_of sha256 (bytes leaf.id) leaf.number i n a (bytes (lane j t)) }
-{
-    let mut t = t;
-    for k in 0..most {
-        let now = tagged(tags, k);
-        let next = step(leaf, now, t);
-        let values = chosen_words(steps, k, next, t);
-        t = values;
-    }
-    t
-}
-
 // Each tag k steps later.
 fn tagged(tags: Lanes, k: u32) -> Lanes
     ensures { (j : ℕ) → j < 4 → slice_index result.0 j ≡ (slice_index tags.0 j + k) % 2 ^ 32 }
@@ -65,19 +50,35 @@ fn tag(run: Run) -> u32
     u32::from(run.chain) * 256 + u32::from(run.first)
 }
 
-// In each lane t after the steps of its run.
-pub(crate) fn four_chains(leaf: Leaf, runs: [Run; 4], t: [Lanes; 8]) -> [Lanes; 8]
-    ensures { (j : ℕ) → j < 4 → (slice_index_or runs j blank).first + (slice_index_or runs j blank).steps ≤ 255 → bytes (lane j result) ≡ steps_of sha256 (bytes leaf.id) leaf.number (slice_index_or runs j blank).chain (slice_index_or runs j blank).steps (slice_index_or runs j blank).first (bytes (lane j t)) }
-{
-    let [a, b, c, d] = runs;
-    let tags = Lanes(u32x4::from_array([tag(a), tag(b), tag(c), tag(d)]));
-    let (na, nb, nc, nd) = (
-        u32::from(a.steps),
-        u32::from(b.steps),
-        u32::from(c.steps),
-        u32::from(d.steps),
-    );
-    let steps = u32x4::from_array([na, nb, nc, nd]);
-    let most = na.max(nb).max(nc).max(nd);
-    stepped(leaf, tags, steps, most, t)
+impl Leaf {
+    // In each lane t after its own number of steps, which is at most `most`, from the step in its tag on.
+    fn stepped(self, tags: Lanes, steps: u32x4, most: u32, t: [Lanes; 8]) -> [Lanes; 8]
+        ensures { (j i a n : ℕ) → j < 4 → i < 65536 → a + n ≤ 255 → slice_index tags.0 j ≡ i * 256 + a → slice_index steps j ≡ n → n ≤ most → bytes (lane j result) ≡ steps_of sha256 (bytes self.id) self.number i n a (bytes (lane j t)) }
+    {
+        let mut t = t;
+        for k in 0..most {
+            let now = tagged(tags, k);
+            let next = self.step(now, t);
+            let values = chosen_words(steps, k, next, t);
+            t = values;
+        }
+        t
+    }
+
+    // In each lane t after the steps of its run.
+    pub(crate) fn four_chains(self, runs: [Run; 4], t: [Lanes; 8]) -> [Lanes; 8]
+        ensures { (j : ℕ) → j < 4 → (slice_index_or runs j blank).first + (slice_index_or runs j blank).steps ≤ 255 → bytes (lane j result) ≡ steps_of sha256 (bytes self.id) self.number (slice_index_or runs j blank).chain (slice_index_or runs j blank).steps (slice_index_or runs j blank).first (bytes (lane j t)) }
+    {
+        let [a, b, c, d] = runs;
+        let tags = Lanes(u32x4::from_array([tag(a), tag(b), tag(c), tag(d)]));
+        let (na, nb, nc, nd) = (
+            u32::from(a.steps),
+            u32::from(b.steps),
+            u32::from(c.steps),
+            u32::from(d.steps),
+        );
+        let steps = u32x4::from_array([na, nb, nc, nd]);
+        let most = na.max(nb).max(nc).max(nd);
+        self.stepped(tags, steps, most, t)
+    }
 }

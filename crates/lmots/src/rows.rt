@@ -5,8 +5,6 @@ ghost use Rattle.lmots.specs.LmOts.{steps as steps_of, through, x as beginning};
 ghost use Rattle.lmots.specs.Runs.{Ended, blank};
 
 use crate::beside::{beside, lane_of};
-use crate::chain::start;
-use crate::lanes::four_chains;
 use crate::leaf::Leaf;
 use crate::order::shortest_first;
 use crate::run::Run;
@@ -37,7 +35,7 @@ impl Leaf {
             |i: usize| -> [u8; 32]
                 requires { i < 34 }
                 ensures { result ≡ beginning sha256 (bytes self.id) self.number (bytes seed) i }
-            { state_bytes(start(self, seed, i as u32)) },
+            { state_bytes(self.start(seed, i as u32)) },
         )
     }
 
@@ -70,7 +68,7 @@ impl Leaf {
             value_of(values, c),
             value_of(values, d),
         );
-        let all = four_chains(self, runs, begun);
+        let all = self.four_chains(runs, begun);
         for (j, run) in runs.iter().enumerate() {
             ended[usize::from(run.chain)] = state_bytes(lane_of(all, j));
         }

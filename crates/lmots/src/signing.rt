@@ -3,7 +3,6 @@ ghost use Rattle.std.specs.Prelude.{◌≡◌};
 ghost use Rattle.sha256.specs.Sha256.{bytes, sha256};
 ghost use Rattle.lmots.specs.LmOts.{K as key_of, public_key, signature as signature_of};
 
-use crate::chain::start;
 use crate::digits::digits;
 use crate::material::KeyMaterial;
 use crate::rows::CHAINS;
@@ -51,7 +50,7 @@ impl KeyMaterial {
         ensures { result ≡ signature_of sha256 (bytes self.id) number (bytes self.seed) message.now }
     {
         let leaf = self.leaf(number);
-        let randomizer = state_bytes(start(leaf, self.seed, RANDOMIZER));
+        let randomizer = state_bytes(leaf.start(self.seed, RANDOMIZER));
         let ends = digits(leaf.message_hash(&randomizer, message));
         let begun = leaf.starts(self.seed);
         let values = leaf.advance(&[0; CHAINS], &ends, &begun);

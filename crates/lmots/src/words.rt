@@ -1,4 +1,5 @@
-// Bytes as words of 32 bits, the highest byte first.
+// Bytes as words of 32 bits, the highest byte first. They are functions with names, since both sides are arrays, which
+// are no types of ours to write a `From` for.
 ghost use Rattle.std.specs.Prelude.{◌≡◌, ◌+◌, ◌≤◌, [], ◌∷◌, length};
 ghost use Rattle.sha256.specs.Sha256.{bytes};
 ghost use Rattle.octets.specs.Parts.{cut};

@@ -77,6 +77,7 @@ fn schedule<W: Word>(m: &[W; 16], w: &mut [W; 64])
     ensures { (j : ℕ) → j < W.lanes → lane W.at j w.new ≡ schedule_of (lane W.at j m.now) }
 {
     w[..16].copy_from_slice(m);
+    // by its number t, as the standard has word t from those before it
     for t in 16..64 {
         w[t] = schedule_word(w[t - 2], w[t - 7], w[t - 15], w[t - 16]);
     }

@@ -1,6 +1,6 @@
 use Rattle.std.proofs.Common.{arith, lit<}
 use Rattle.sha256_lanes.proofs.Four.{below4}
-use Rattle.lmots.proofs.lanes.four_chains.Goals as goal
+use Rattle.lmots.proofs.leaf.Leaf.four_chains.Goals as goal
 
 pub returns : goal.returns
 returns c =

@@ -3,13 +3,13 @@ use Rattle.sha256.specs.Lane.{lane}
 use Rattle.sha256.specs.Sha256.{IV, bytes, compress, sha256}
 use Rattle.sha256.proofs.Rounds.{lane_eight}
 use Rattle.lmots.proofs.Block.{step_is}
-use Rattle.lmots.proofs.chain.step.Goals as goal
+use Rattle.lmots.proofs.leaf.Leaf.step.Goals as goal
 
 pub returns : goal.returns
 returns g c j l =
     let at = g.W.Word.at in
-    let I = c.args.leaf.id in
-    let q = c.args.leaf.number in
+    let I = c.args.self.id in
+    let q = c.args.self.number in
     let tag = at c.args.tag j in
     let hi : length I ≡ 4 = grind arith in
     let ht : length c.args.t ≡ 8 = grind arith in
