@@ -1,8 +1,7 @@
 -- Words and the bytes that they stand for.
-use Rattle.std.proofs.Common.{◌≡◌, ℕ, ◌+◌, ◌≤◌, List, [], ◌∷◌, ◌++◌, length, get_or, take, drop, sym, refl, ap, ◌∙◌, arith}
+use Rattle.std.proofs.Common.{◌≡◌, ℕ, ◌+◌, ◌≤◌, List, [], ◌∷◌, ◌++◌, length, get_or, take, drop, ap, ◌∙◌, arith}
 use Rattle.std.proofs.lemmas.List.{drop_more}
 use Rattle.sha256.specs.Sha256.{bytes}
-use Rattle.sha256.proofs.Rounds.{listed}
 use Rattle.octets.specs.Numbers.{u32}
 use Rattle.octets.specs.Parts.{cut}
 use Rattle.octets.proofs.Rows.{cut_more}
@@ -38,11 +37,3 @@ eight_words s a w0 w1 w2 w3 w4 w5 w6 w7 f0 f1 f2 f3 f4 f5 f6 f7 =
     (word_more w2 (w3 ∷ w4 ∷ w5 ∷ w6 ∷ w7 ∷ []) s (a + 8) (a + 12) 20 (omega arith) f2
     (word_more w3 (w4 ∷ w5 ∷ w6 ∷ w7 ∷ []) s (a + 12) (a + 16) 16 (omega arith) f3
     (four_words s (a + 16) w4 w5 w6 w7 f4 (f5 ∙ ap (λ k. cut k 4 s) (omega arith)) (f6 ∙ ap (λ k. cut k 4 s) (omega arith)) (f7 ∙ ap (λ k. cut k 4 s) (omega arith))))))
-
-four_same : {xs ys rs ss : List ℕ} → xs ≡ ys → rs ≡ ss → get_or xs 0 0 ∷ get_or xs 1 0 ∷ get_or xs 2 0 ∷ get_or xs 3 0 ∷ rs ≡ get_or ys 0 0 ∷ get_or ys 1 0 ∷ get_or ys 2 0 ∷ get_or ys 3 0 ∷ ss
-four_same {xs} {ys} {rs} {ss} e f = ap (λ x. get_or x 0 0 ∷ get_or x 1 0 ∷ get_or x 2 0 ∷ get_or x 3 0 ∷ rs) e ∙ ap (λ r. get_or ys 0 0 ∷ get_or ys 1 0 ∷ get_or ys 2 0 ∷ get_or ys 3 0 ∷ r) f
-
-pub id_bytes_are : (s b0 b1 b2 b3 : List ℕ) → length s ≡ 4
-    → b0 ≡ u32 (get_or s 0 0) → b1 ≡ u32 (get_or s 1 0) → b2 ≡ u32 (get_or s 2 0) → b3 ≡ u32 (get_or s 3 0)
-    → get_or b0 0 0 ∷ get_or b0 1 0 ∷ get_or b0 2 0 ∷ get_or b0 3 0 ∷ get_or b1 0 0 ∷ get_or b1 1 0 ∷ get_or b1 2 0 ∷ get_or b1 3 0 ∷ get_or b2 0 0 ∷ get_or b2 1 0 ∷ get_or b2 2 0 ∷ get_or b2 3 0 ∷ get_or b3 0 0 ∷ get_or b3 1 0 ∷ get_or b3 2 0 ∷ get_or b3 3 0 ∷ [] ≡ bytes s
-id_bytes_are s b0 b1 b2 b3 h e0 e1 e2 e3 = four_same e0 (four_same e1 (four_same e2 (four_same e3 refl))) ∙ sym (ap bytes (listed 4 s h))

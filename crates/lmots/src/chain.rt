@@ -23,22 +23,11 @@ fn spread<W: Word>(w: u32) -> W
     W::splat(w)
 }
 
-// The hash value that the first block is worked on with, in each lane. It is written out: of an array's `map` by a
-// function that makes a W of a number, the check reads no proof.
+// The hash value that the first block is worked on with, in each lane.
 fn initial<W: Word>() -> [W; 8]
     ensures { (j : ℕ) → j < W.lanes → lane W.at j result ≡ IV }
 {
-    let [a, b, c, d, e, f, g, h] = block::INITIAL;
-    [
-        W::splat(a),
-        W::splat(b),
-        W::splat(c),
-        W::splat(d),
-        W::splat(e),
-        W::splat(f),
-        W::splat(g),
-        W::splat(h),
-    ]
+    std::array::from_fn(|i| W::splat(block::INITIAL[i]))
 }
 
 impl Leaf {

@@ -19,20 +19,18 @@ fn chosen(steps: u32x4, k: u32, next: Lanes, t: Lanes) -> Lanes
     Lanes(steps.simd_gt(u32x4::splat(k)).select(next.0, t.0))
 }
 
-// The same of eight words. They are written out: of `from_fn` the search left the goal open.
+// The same of eight words.
 fn chosen_words(steps: u32x4, k: u32, next: [Lanes; 8], t: [Lanes; 8]) -> [Lanes; 8]
     ensures going { (j : ℕ) → j < 4 → k < slice_index steps j → lane j result ≡ lane j next }
     ensures done { (j : ℕ) → j < 4 → slice_index steps j ≤ k → lane j result ≡ lane j t }
 {
-    let v0 = chosen(steps, k, next[0], t[0]);
-    let v1 = chosen(steps, k, next[1], t[1]);
-    let v2 = chosen(steps, k, next[2], t[2]);
-    let v3 = chosen(steps, k, next[3], t[3]);
-    let v4 = chosen(steps, k, next[4], t[4]);
-    let v5 = chosen(steps, k, next[5], t[5]);
-    let v6 = chosen(steps, k, next[6], t[6]);
-    let v7 = chosen(steps, k, next[7], t[7]);
-    [v0, v1, v2, v3, v4, v5, v6, v7]
+    std::array::from_fn(
+        |i: usize| -> Lanes
+            requires { i < 8 }
+            ensures going { (j : ℕ) → j < 4 → k < slice_index steps j → slice_index result.0 j ≡ slice_index (lane j next) i }
+            ensures done { (j : ℕ) → j < 4 → slice_index steps j ≤ k → slice_index result.0 j ≡ slice_index (lane j t) i }
+        { chosen(steps, k, next[i], t[i]) },
+    )
 }
 
 // Each tag k steps later.

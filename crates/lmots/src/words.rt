@@ -4,6 +4,8 @@ ghost use Rattle.std.specs.Prelude.{◌≡◌, ◌+◌, ◌≤◌, [], ◌∷◌
 ghost use Rattle.sha256.specs.Sha256.{bytes};
 ghost use Rattle.octets.specs.Parts.{cut};
 
+use sha256::block;
+
 // The word in the four bytes at an offset.
 fn word_at(s: &[u8], at: usize) -> u32
     requires { at + 4 ≤ length s.now }
@@ -38,12 +40,5 @@ pub fn seed_words(seed: &[u8; 32]) -> [u32; 8]
 pub fn id_bytes(id: [u32; 4]) -> [u8; 16]
     ensures { result ≡ bytes id }
 {
-    let b0 = id[0].to_be_bytes();
-    let b1 = id[1].to_be_bytes();
-    let b2 = id[2].to_be_bytes();
-    let b3 = id[3].to_be_bytes();
-    [
-        b0[0], b0[1], b0[2], b0[3], b1[0], b1[1], b1[2], b1[3], b2[0], b2[1], b2[2], b2[3], b3[0],
-        b3[1], b3[2], b3[3],
-    ]
+    block::word_bytes(id)
 }

@@ -1,6 +1,7 @@
 -- A hasher's bytes: a block's words, and one more byte.
 use Rattle.std.proofs.Common.{◌≡◌, ℕ, zero, suc, ◌+◌, ◌-◌, ◌*◌, ◌/◌, ◌%◌, ◌^◌, ◌<◌, ◌≤◌, List, [], ◌∷◌, ◌++◌, length, get_or, take, drop, set, replicate, sym, refl, ap, ◌∙◌, append_assoc, append-nil, arith, length-append, length-drop, length-set}
 use Rattle.std.proofs.lemmas.List.{take_all, take-append-le, drop-append-le, take_more_set, nil_from_length, length_push, length-take-le, length-replicate, take-append-drop}
+use Rattle.std.specs.List.{flat_map}
 use lib.Seq.{take-append-add}
 use Rattle.sha256.specs.Sha256.{words, bytes, absorb, compress, IV, pad, zeros, u64str, sha256}
 use Rattle.sha256.specs.Hashed.{Holds}
@@ -103,22 +104,16 @@ whole_more st st' block f t blk bs ef hb hs w =
       long = w.long;
     }
 
-four_same : {xs ys rs ss : List ℕ} → xs ≡ ys → rs ≡ ss → get_or xs 0 0 ∷ get_or xs 1 0 ∷ get_or xs 2 0 ∷ get_or xs 3 0 ∷ rs ≡ get_or ys 0 0 ∷ get_or ys 1 0 ∷ get_or ys 2 0 ∷ get_or ys 3 0 ∷ ss
-four_same {xs} {ys} {rs} {ss} e f = ap (λ x. get_or x 0 0 ∷ get_or x 1 0 ∷ get_or x 2 0 ∷ get_or x 3 0 ∷ rs) e ∙ ap (λ r. get_or ys 0 0 ∷ get_or ys 1 0 ∷ get_or ys 2 0 ∷ get_or ys 3 0 ∷ r) f
-
-pub state_bytes_are : (s b0 b1 b2 b3 b4 b5 b6 b7 : List ℕ) → length s ≡ 8
-    → b0 ≡ (get_or s 0 0 / 16777216 % 256) ∷ (get_or s 0 0 / 65536 % 256) ∷ (get_or s 0 0 / 256 % 256) ∷ (get_or s 0 0 % 256) ∷ []
-    → b1 ≡ (get_or s 1 0 / 16777216 % 256) ∷ (get_or s 1 0 / 65536 % 256) ∷ (get_or s 1 0 / 256 % 256) ∷ (get_or s 1 0 % 256) ∷ []
-    → b2 ≡ (get_or s 2 0 / 16777216 % 256) ∷ (get_or s 2 0 / 65536 % 256) ∷ (get_or s 2 0 / 256 % 256) ∷ (get_or s 2 0 % 256) ∷ []
-    → b3 ≡ (get_or s 3 0 / 16777216 % 256) ∷ (get_or s 3 0 / 65536 % 256) ∷ (get_or s 3 0 / 256 % 256) ∷ (get_or s 3 0 % 256) ∷ []
-    → b4 ≡ (get_or s 4 0 / 16777216 % 256) ∷ (get_or s 4 0 / 65536 % 256) ∷ (get_or s 4 0 / 256 % 256) ∷ (get_or s 4 0 % 256) ∷ []
-    → b5 ≡ (get_or s 5 0 / 16777216 % 256) ∷ (get_or s 5 0 / 65536 % 256) ∷ (get_or s 5 0 / 256 % 256) ∷ (get_or s 5 0 % 256) ∷ []
-    → b6 ≡ (get_or s 6 0 / 16777216 % 256) ∷ (get_or s 6 0 / 65536 % 256) ∷ (get_or s 6 0 / 256 % 256) ∷ (get_or s 6 0 % 256) ∷ []
-    → b7 ≡ (get_or s 7 0 / 16777216 % 256) ∷ (get_or s 7 0 / 65536 % 256) ∷ (get_or s 7 0 / 256 % 256) ∷ (get_or s 7 0 % 256) ∷ []
-    → get_or b0 0 0 ∷ get_or b0 1 0 ∷ get_or b0 2 0 ∷ get_or b0 3 0 ∷ get_or b1 0 0 ∷ get_or b1 1 0 ∷ get_or b1 2 0 ∷ get_or b1 3 0 ∷ get_or b2 0 0 ∷ get_or b2 1 0 ∷ get_or b2 2 0 ∷ get_or b2 3 0 ∷ get_or b3 0 0 ∷ get_or b3 1 0 ∷ get_or b3 2 0 ∷ get_or b3 3 0 ∷ get_or b4 0 0 ∷ get_or b4 1 0 ∷ get_or b4 2 0 ∷ get_or b4 3 0 ∷ get_or b5 0 0 ∷ get_or b5 1 0 ∷ get_or b5 2 0 ∷ get_or b5 3 0 ∷ get_or b6 0 0 ∷ get_or b6 1 0 ∷ get_or b6 2 0 ∷ get_or b6 3 0 ∷ get_or b7 0 0 ∷ get_or b7 1 0 ∷ get_or b7 2 0 ∷ get_or b7 3 0 ∷ [] ≡ bytes s
-state_bytes_are s b0 b1 b2 b3 b4 b5 b6 b7 h e0 e1 e2 e3 e4 e5 e6 e7 =
-    four_same e0 (four_same e1 (four_same e2 (four_same e3 (four_same e4 (four_same e5 (four_same e6 (four_same e7 (refl))))))))
-    ∙ sym (ap bytes (listed 8 s h))
+-- the bytes of each word, one after the other
+pub words_flattened : (ws : List ℕ) (ps : List (List ℕ)) → length ps ≡ length ws
+    → ((i : ℕ) → i < length ws → get_or ps i [] ≡ (get_or ws i 0 / 16777216 % 256) ∷ (get_or ws i 0 / 65536 % 256) ∷ (get_or ws i 0 / 256 % 256) ∷ (get_or ws i 0 % 256) ∷ [])
+    → flat_map (λ x. x) ps ≡ bytes ws
+words_flattened [] [] h f = refl
+words_flattened [] (p ∷ ps) h f = absurd (omega arith)
+words_flattened (w ∷ ws) [] h f = absurd (omega arith)
+words_flattened (w ∷ ws) (p ∷ ps) h f =
+    ap (λ z. z ++ flat_map (λ x. x) ps) (f 0 (omega arith))
+    ∙ ap (λ z. (w / 16777216 % 256) ∷ (w / 65536 % 256) ∷ (w / 256 % 256) ∷ (w % 256) ∷ z) (words_flattened ws ps (omega arith) (λ i l. f (suc i) (omega arith)))
 
 bits_are : (t n : ℕ) → t ≡ n % 2 ^ 64 → (t * 8) % 2 ^ 64 ≡ (8 * n) % 2 ^ 64
 bits_are t n e = omega arith

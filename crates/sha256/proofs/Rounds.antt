@@ -64,6 +64,15 @@ round-lane at j s a b c d e f g h k w l p1 p2 px py =
     let q7 = lane_word at j s 7 h (omega arith) in
     cc
 
+-- a lane, from what each of its words is
+pub lane_is : {W : Type 0} (at : W → ℕ → ℕ) (j : ℕ) (vs : List W) (xs : List ℕ) → length vs ≡ length xs
+    → ((i : ℕ) (d : W) → i < length xs → at (get_or vs i d) j ≡ get_or xs i 0) → lane at j vs ≡ xs
+lane_is at j [] [] h f = refl
+lane_is at j [] (x ∷ xs) h f = absurd (omega arith)
+lane_is at j (v ∷ vs) [] h f = absurd (omega arith)
+lane_is at j (v ∷ vs) (x ∷ xs) h f =
+    ap (λ z. z ∷ lane at j vs) (f 0 v (omega arith)) ∙ ap (λ zs. x ∷ zs) (lane_is at j vs xs (omega arith) (λ i d l. f (suc i) d (omega arith)))
+
 extend_before : (n i : ℕ) (ws : List ℕ) → i < length ws → get_or (extend n ws) i 0 ≡ get_or ws i 0
 extend_before n i ws h = sym (get_or-take (length ws) (extend n ws) i 0 h) ∙ ap (λ x. get_or x i 0) (take-extend n ws)
 

@@ -136,22 +136,21 @@ fn word(a: u8, b: u8, c: u8, d: u8) -> u32
     u32::from_be_bytes([a, b, c, d])
 }
 
-// The bytes of eight words, the highest byte of each first. They are written out: of `from_fn` over the 32 bytes the
-// proof did not close, at the check's limit of steps.
+// The bytes of some words, the highest byte of each first. So few words and their bytes are sure to fit in memory.
+pub fn word_bytes<const N: usize, const M: usize>(s: [u32; N]) -> [u8; M]
+    requires four { M ≡ N * 4 }
+    requires fits { N < 65536 }
+    ensures { result ≡ bytes s.entry }
+{
+    let parts = s.map(u32::to_be_bytes);
+    let mut out = [0; M];
+    out.copy_from_slice(parts.as_flattened());
+    out
+}
+
+// The bytes of eight words.
 pub fn state_bytes(s: [u32; 8]) -> [u8; 32]
     ensures { result ≡ bytes s }
 {
-    let b0 = s[0].to_be_bytes();
-    let b1 = s[1].to_be_bytes();
-    let b2 = s[2].to_be_bytes();
-    let b3 = s[3].to_be_bytes();
-    let b4 = s[4].to_be_bytes();
-    let b5 = s[5].to_be_bytes();
-    let b6 = s[6].to_be_bytes();
-    let b7 = s[7].to_be_bytes();
-    [
-        b0[0], b0[1], b0[2], b0[3], b1[0], b1[1], b1[2], b1[3], b2[0], b2[1], b2[2], b2[3], b3[0],
-        b3[1], b3[2], b3[3], b4[0], b4[1], b4[2], b4[3], b5[0], b5[1], b5[2], b5[3], b6[0], b6[1],
-        b6[2], b6[3], b7[0], b7[1], b7[2], b7[3],
-    ]
+    word_bytes(s)
 }

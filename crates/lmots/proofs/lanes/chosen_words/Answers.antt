@@ -1,13 +1,24 @@
-use Rattle.std.proofs.Common.{◌≡◌, length, sym, refl, ◌∙◌, arith}
-use Rattle.sha256.proofs.Hashing.{cons_same}
-use Rattle.sha256_lanes.proofs.Four.{lane_listed}
+use Rattle.std.proofs.Common.{rules, ◌≡◌, length, get_or, arith}
+use Rattle.std.proofs.lemmas.List.{length-map}
+use Rattle.sha256.proofs.Rounds.{lane_is}
+use Rattle.sha256_lanes.specs.Lane.{lane}
+use Rattle.lmots.proofs.Called.{each_called}
 use Rattle.lmots.proofs.lanes.chosen_words.Goals as goal
 
-pub returns : goal.returns
-returns c =
-    let hn : length c.args.next ≡ 8 = grind arith in
-    let ht : length c.args.t ≡ 8 = grind arith in
-    record {
-      going = λ j l h. cons_same (c.chosen-v0.ensures.going j l h) (cons_same (c.chosen-v1.ensures.going j l h) (cons_same (c.chosen-v2.ensures.going j l h) (cons_same (c.chosen-v3.ensures.going j l h) (cons_same (c.chosen-v4.ensures.going j l h) (cons_same (c.chosen-v5.ensures.going j l h) (cons_same (c.chosen-v6.ensures.going j l h) (cons_same (c.chosen-v7.ensures.going j l h) refl))))))) ∙ sym (lane_listed 8 c.args.next j hn);
-      done = λ j l h. cons_same (c.chosen-v0.ensures.done j l h) (cons_same (c.chosen-v1.ensures.done j l h) (cons_same (c.chosen-v2.ensures.done j l h) (cons_same (c.chosen-v3.ensures.done j l h) (cons_same (c.chosen-v4.ensures.done j l h) (cons_same (c.chosen-v5.ensures.done j l h) (cons_same (c.chosen-v6.ensures.done j l h) (cons_same (c.chosen-v7.ensures.done j l h) refl))))))) ∙ sym (lane_listed 8 c.args.t j ht);
-    }
+pub returns-clause-going : goal.returns-clause-going
+returns-clause-going c j l h =
+    let r = c.from_fn.result in
+    let of = lane j c.args.next in
+    let hr : length r ≡ 8 = grind arith in
+    let ho : length of ≡ 8 = omega (arith, length-map c.args.next (λ v. get_or v.0 j 0)) in
+    lane_is (λ v k. get_or v.0 k 0) j r of (omega (arith, hr, ho))
+    (λ i d k. each_called _ (λ n v. get_or v.0 j 0 ≡ get_or of n 0) _ r d 8 (λ n v q m call. search rules) c.from_fn.ensures.items i (omega (arith, ho, k)))
+
+pub returns-clause-done : goal.returns-clause-done
+returns-clause-done c j l h =
+    let r = c.from_fn.result in
+    let of = lane j c.args.t in
+    let hr : length r ≡ 8 = grind arith in
+    let ho : length of ≡ 8 = omega (arith, length-map c.args.t (λ v. get_or v.0 j 0)) in
+    lane_is (λ v k. get_or v.0 k 0) j r of (omega (arith, hr, ho))
+    (λ i d k. each_called _ (λ n v. get_or v.0 j 0 ≡ get_or of n 0) _ r d 8 (λ n v q m call. search rules) c.from_fn.ensures.items i (omega (arith, ho, k)))
