@@ -4,8 +4,6 @@ ghost use Rattle.std.specs.Prelude.{◌≡◌, ◌+◌, ◌≤◌, [], ◌∷◌
 ghost use Rattle.sha256.specs.Sha256.{bytes};
 ghost use Rattle.octets.specs.Parts.{cut};
 
-use sha256::block;
-
 // The word in the four bytes at an offset.
 fn word_at(s: &[u8], at: usize) -> u32
     requires { at + 4 ≤ length s.now }
@@ -36,9 +34,13 @@ pub fn seed_words(seed: &[u8; 32]) -> [u32; 8]
     words_at(seed, 0)
 }
 
-// The bytes of an identifier.
+// The bytes of an identifier. `sha256::block::state_bytes` is the same of eight words: one function for both would have
+// to require of its callers that there are four bytes for each word, since a type's constant cannot be computed.
 pub fn id_bytes(id: [u32; 4]) -> [u8; 16]
     ensures { result ≡ bytes id }
 {
-    block::word_bytes(id)
+    let parts = id.map(u32::to_be_bytes);
+    let mut out = [0; 16];
+    out.copy_from_slice(parts.as_flattened());
+    out
 }

@@ -136,21 +136,12 @@ fn word(a: u8, b: u8, c: u8, d: u8) -> u32
     u32::from_be_bytes([a, b, c, d])
 }
 
-// The bytes of some words, the highest byte of each first. So few words and their bytes are sure to fit in memory.
-pub fn word_bytes<const N: usize, const M: usize>(s: [u32; N]) -> [u8; M]
-    requires four { M ≡ N * 4 }
-    requires fits { N < 65536 }
-    ensures { result ≡ bytes s.entry }
-{
-    let parts = s.map(u32::to_be_bytes);
-    let mut out = [0; M];
-    out.copy_from_slice(parts.as_flattened());
-    out
-}
-
-// The bytes of eight words.
+// The bytes of eight words, the highest byte of each first.
 pub fn state_bytes(s: [u32; 8]) -> [u8; 32]
     ensures { result ≡ bytes s }
 {
-    word_bytes(s)
+    let parts = s.map(u32::to_be_bytes);
+    let mut out = [0; 32];
+    out.copy_from_slice(parts.as_flattened());
+    out
 }
