@@ -36,7 +36,7 @@ impl Leaf {
         ensures { (j : ℕ) → j < W.lanes → bytes (lane W.at j result) ≡ sha256 (bytes self.id ++ (bytes (self.number ∷ []) ++ ((W.at tag j / 65536 % 256) ∷ (W.at tag j / 256 % 256) ∷ (W.at tag j % 256) ∷ bytes (lane W.at j t)))) }
     {
         let [t0, t1, t2, t3, t4, t5, t6, t7] = t;
-        // the padding begins behind t, and 440 bits are hashed
+        // written out, since the words are of several kinds; the padding begins behind t, and 440 bits are hashed
         let pad = spread(0x8000_0000);
         let message = [
             spread(self.id[0]),

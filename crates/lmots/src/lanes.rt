@@ -67,16 +67,10 @@ impl Leaf {
     pub(crate) fn four_chains(self, runs: [Run; 4], t: [Lanes; 8]) -> [Lanes; 8]
         ensures { (j : ℕ) → j < 4 → (slice_index_or runs j blank).first + (slice_index_or runs j blank).steps ≤ 255 → bytes (lane j result) ≡ steps_of sha256 (bytes self.id) self.number (slice_index_or runs j blank).chain (slice_index_or runs j blank).steps (slice_index_or runs j blank).first (bytes (lane j t)) }
     {
-        let [a, b, c, d] = runs;
-        let tags = Lanes(u32x4::from_array([tag(a), tag(b), tag(c), tag(d)]));
-        let (na, nb, nc, nd) = (
-            u32::from(a.steps),
-            u32::from(b.steps),
-            u32::from(c.steps),
-            u32::from(d.steps),
-        );
-        let steps = u32x4::from_array([na, nb, nc, nd]);
-        let most = na.max(nb).max(nc).max(nd);
-        self.stepped(tags, steps, most, t)
+        let tags = Lanes(u32x4::from_array(runs.map(tag)));
+        let steps = runs.map(|run| u32::from(run.steps));
+        let [a, b, c, d] = steps;
+        let most = a.max(b).max(c).max(d);
+        self.stepped(tags, u32x4::from_array(steps), most, t)
     }
 }

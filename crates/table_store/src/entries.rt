@@ -1,4 +1,5 @@
-// Entries in a block of bytes: names and bodies, one behind the other, and a row for each with their lengths.
+// Entries in a block of bytes: names and bodies, one behind the other, and a row for each with their lengths. These are
+// functions of the two slices: a struct of both would be made anew for each call.
 ghost use Rattle.std.specs.Prelude.{◌≡◌, ◌+◌, ◌<◌, ◌≤◌, ◌++◌, length, take, MatchOption};
 ghost use Rattle.std.specs.Option.{option_copied};
 ghost use Rattle.octets.specs.Buffers.{over};

@@ -112,6 +112,7 @@ impl<'a> Store for TableStore<'a> {
         Ok(body.len())
     }
 
+    // Not a method that the trait provides for every store, since `added` is said of a table alone.
     fn file(&mut self, name: &[u8], body: &[u8]) -> Result<(), FileRefusal>
         ensures answer { result_err result ≡ file_refusal name.now body.now (is_some (meaning_of self.old name.now)) (room_in self.old (length name.now) (length body.now)) }
         ensures meaning { meaning_of self.new ≡ (if is_ok result then with (meaning_of self.old) name.now body.now else meaning_of self.old) }
