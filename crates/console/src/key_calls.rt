@@ -116,7 +116,7 @@ fn secret_of(call: &KeyCall) -> Result<HashBasedSecret, Mistake> {
         return Err(Mistake::NotAKey);
     };
     let keytype = call.keytype.as_slice();
-    if keytype == lmots::one_time::KEYTYPE && call.number == 4 {
+    if keytype == lmots::one_time::KEYTYPE && call.number == lmots::signing::TYPE as usize {
         return Ok(HashBasedSecret::OneTime(OneTimeSecret::new(id, seed)));
     }
     let kind = tree_type(keytype, call.number).ok_or(Mistake::UnknownKeytype)?;

@@ -25,7 +25,7 @@ pub enum Mistake {
 }
 
 impl Mistake {
-    fn message(self) -> &'static str
+    pub fn message(self) -> &'static str
         ensures { result.now ≡ message_of self }
     {
         match self {

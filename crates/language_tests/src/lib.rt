@@ -6,6 +6,7 @@ mod tests {
     use language::answer::Answer;
     use language::call;
     use language::call::{Call, StoreCall};
+    use language::mistake::{Mistake, Trouble};
     use language::verb::Kind;
     use language::words::Words;
     use std::test::Fail;
@@ -21,9 +22,10 @@ mod tests {
         answer.refused(31)?;
         answer.line("end")?;
         answer.digits_line(b"a")?;
+        answer.trouble(3, Trouble::Script(Mistake::NoStore))?;
         assert_eq!(rt;
             answer.finish(),
-            b"got 2 x:00ff\nyes\nrefused 31\nend\n61\n".as_slice()
+            b"got 2 x:00ff\nyes\nrefused 31\nend\n61\nline 3: no store is open\n".as_slice()
         );
         Ok(())
     }

@@ -70,6 +70,7 @@ fn yields(rest: &[u8], message: &[u8], parts: &[u8]) -> bool
         id: id_words(id),
         number: leading_number(tail),
     };
+    // of `is_some_and` the closure would have to show again how long `tail` is
     match leaf.candidate(message, parts) {
         Some(found) => found.as_slice() == &tail[4..36],
         None => false,

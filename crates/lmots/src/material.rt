@@ -5,7 +5,8 @@ ghost use Rattle.sha256.specs.Sha256.{bytes};
 use crate::leaf::Leaf;
 use crate::words::{id_words, seed_words};
 
-// A key's identifier and its seed, in words.
+// A key's identifier and its seed, in words. What the type says of the identifier's length is a field too, so that laws
+// over keys have it.
 #[derive(Clone, Copy)]
 pub struct KeyMaterial {
     pub id: [u32; 4],

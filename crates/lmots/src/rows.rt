@@ -8,7 +8,7 @@ use crate::beside::{beside, lane_of};
 use crate::leaf::Leaf;
 use crate::order::shortest_first;
 use crate::run::Run;
-use crate::words::words_at;
+use crate::words::seed_words;
 use sha256::block::state_bytes;
 use std::array;
 
@@ -23,7 +23,7 @@ fn value_of(values: &Values, run: Run) -> [u32; 8]
     requires { run.chain < 34 }
     ensures { bytes result ≡ slice_index_or values.now run.chain [] }
 {
-    words_at(&values[usize::from(run.chain)], 0)
+    seed_words(&values[usize::from(run.chain)])
 }
 
 impl Leaf {

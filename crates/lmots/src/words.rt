@@ -12,14 +12,6 @@ fn word_at(s: &[u8], at: usize) -> u32
     u32::from_be_bytes([s[at], s[at + 1], s[at + 2], s[at + 3]])
 }
 
-// The eight words in the 32 bytes at an offset.
-pub(crate) fn words_at(s: &[u8], at: usize) -> [u32; 8]
-    requires { at + 32 ≤ length s.now }
-    ensures { bytes result ≡ cut at 32 s.now }
-{
-    std::array::from_fn(|i| word_at(s, at + 4 * i))
-}
-
 // The words of an identifier.
 pub fn id_words(id: &[u8; 16]) -> [u32; 4]
     ensures { bytes result ≡ id.now }
@@ -27,11 +19,11 @@ pub fn id_words(id: &[u8; 16]) -> [u32; 4]
     std::array::from_fn(|i| word_at(id, 4 * i))
 }
 
-// The words of a seed.
+// The words of a seed, or of a chain's value.
 pub fn seed_words(seed: &[u8; 32]) -> [u32; 8]
     ensures { bytes result ≡ seed.now }
 {
-    words_at(seed, 0)
+    std::array::from_fn(|i| word_at(seed, 4 * i))
 }
 
 // The bytes of an identifier. `sha256::block::state_bytes` is the same of eight words: one function for both would have
