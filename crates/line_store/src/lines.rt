@@ -48,6 +48,7 @@ pub(crate) fn name_at(text: &[u8], index: usize) -> Option<&[u8]>
         let (_, after) = next_line(rest)?;
         rest = after;
     }
-    let (line, _) = next_line(rest)?;
-    Some(line.name)
+    // the body, which may be long, is not looked at
+    let (name, _) = split_once(rest, b' ')?;
+    Some(name)
 }

@@ -60,7 +60,9 @@ pub(crate) fn is_text(text: &[u8]) -> bool
 {
     let mut rest = text;
     while let Some((line, after)) = next_line(rest) {
-        if !line.is_entry() || find(after, line.name).is_some() {
+        // a name is looked for in the lines before its own, so that a fault ends the search
+        let before = &text[..text.len() - rest.len()];
+        if !line.is_entry() || find(before, line.name).is_some() {
             return false;
         }
         rest = after;

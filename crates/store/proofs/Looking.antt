@@ -78,6 +78,21 @@ sound_push (d ∷ es) e s v h =
     let n : is_some (look_up (es ++ e ∷ []) d.0) ≡ false = ap is_some (look_append es (e ∷ []) d.0 (not-true _ b.0) ∙ ap (λ z. cond z (Some e.1) None) f) in
     and_from _ _ a.0 (and_from _ _ (not_from_false _ n) (sound_push es e b.1 v k.1))
 
+-- an entry within a sound list, with those before it
+pub record Within (ds : List Entry) (e : Entry) : Type 0 where
+  pub ok : is_entry e ≡ true
+  pub fresh : is_some (look_up ds e.0) ≡ false
+
+pub sound-within : (ds : List Entry) (e : Entry) (es : List Entry) → sound (ds ++ e ∷ es) ≡ true → Within ds e
+sound-within [] e es s = record { ok = (and_parts (is_entry e) _ s).0; fresh = refl }
+sound-within (d ∷ ds) e es s =
+    let a = and_parts (is_entry d) (not (is_some (look_up (ds ++ e ∷ es) d.0)) && sound (ds ++ e ∷ es)) s in
+    let b = and_parts (not (is_some (look_up (ds ++ e ∷ es) d.0))) (sound (ds ++ e ∷ es)) a.1 in
+    let m = sound-within ds e es b.1 in
+    let k = absent_parts ds (e ∷ es) d.0 (not-true _ b.0) in
+    let f : bytes_eq d.0 e.0 ≡ false = same_sym d.0 e.0 ∙ absent_one e d.0 (absent_parts (e ∷ []) es d.0 k.1).0 in
+    record { ok = m.ok; fresh = ap (λ z. is_some (cond z (Some d.1) (look_up ds e.0))) f ∙ m.fresh }
+
 -- what a look-up finds is an entry
 look_entry : (es : List Entry) (n b : List ℕ) → sound es ≡ true → look_up es n ≡ Some b → is_entry (n, b) ≡ true
 look_entry [] n b s e = let z : ◌≡◌ {A = ℕ} 0 1 = cc in absurd (omega arith)
