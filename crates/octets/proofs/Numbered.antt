@@ -1,5 +1,5 @@
 -- A number and the four bytes that write it.
-use Rattle.std.proofs.Common.{◌≡◌, ℕ, ◌+◌, ◌*◌, ◌/◌, ◌%◌, ◌^◌, ◌<◌, List, [], ◌∷◌, get_or, drop, refl, ap, ◌∙◌, arith}
+use Rattle.std.proofs.Common.{◌≡◌, ℕ, ◌+◌, ◌*◌, ◌/◌, ◌%◌, ◌^◌, ◌<◌, List, [], ◌∷◌, get_or, take, drop, refl, ap, ◌∙◌, arith}
 use Rattle.std.proofs.lemmas.List.{get_or-drop}
 use Rattle.octets.specs.Numbers.{u32, number}
 
@@ -28,6 +28,14 @@ u32_four a b c d w ha hb hc hd e =
     let r : w / 256 % 256 ≡ c = omega arith in
     let s : w % 256 ≡ d = omega arith in
     cc
+
+-- the number lies in the first four bytes
+pub number-take : (xs : List ℕ) → number (take 4 xs) ≡ number xs
+number-take [] = refl
+number-take (a ∷ []) = refl
+number-take (a ∷ b ∷ []) = refl
+number-take (a ∷ b ∷ c ∷ []) = refl
+number-take (a ∷ b ∷ c ∷ d ∷ xs) = refl
 
 -- the number at a place
 pub number-drop : (xs : List ℕ) (k : ℕ) → number (drop k xs) ≡ get_or xs k 0 * 16777216 + get_or xs (k + 1) 0 * 65536 + get_or xs (k + 2) 0 * 256 + get_or xs (k + 3) 0

@@ -21,6 +21,10 @@ cut_more s a n m = ap (λ r. cut a n s ++ take m r) (sym (drop-drop n a s)) ∙ 
 pub length_cut : (xs : List ℕ) (a n : ℕ) → a + n ≤ length xs → length (cut a n xs) ≡ n
 length_cut xs a n h = length-take-le n (drop a xs) (omega (arith, length-drop a xs))
 
+-- what lies behind the part written at a buffer's start is as it was
+pub cut-over : (done old : List ℕ) (a n : ℕ) → length done ≡ a → cut a n (over done old) ≡ cut a n old
+cut-over done old a n h = ap (take n) (drop_at done (drop (length done) old) a h ∙ ap (λ k. drop k old) h)
+
 pub row_none : (f : ℕ → List ℕ) → row 0 f ≡ []
 unfolding row
 row_none f = refl

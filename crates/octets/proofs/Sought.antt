@@ -1,6 +1,7 @@
 -- A search for a byte.
-use Rattle.std.proofs.Common.{◌≡◌, ℕ, zero, suc, get_or, Option, ◌+◌, ◌<◌, ◌≤◌, Bool, true, false, not, cond, ltb, List, [], ◌∷◌, length, Some, None, is_some, unwrap_or, ◌==◌, sym, refl, ap, ◌∙◌, ⊎_elim, arith}
+use Rattle.std.proofs.Common.{◌≡◌, ℕ, zero, suc, get_or, Option, ◌+◌, ◌<◌, ◌≤◌, Bool, true, false, not, cond, ltb, List, [], ◌∷◌, ◌++◌, length, Some, None, is_some, unwrap_or, ◌==◌, sym, refl, ap, ◌∙◌, ⊎_elim, arith}
 use Rattle.std.specs.List.{position, position_or_len}
+use Rattle.std.proofs.lemmas.List.{length-append}
 use Rattle.std.proofs.lemmas.Bool.{eq-eqb, eqb-true, ne_eqb, cases_lt, lt-ltb, le-ltb, both_ways}
 use Rattle.memchr.specs.Find.{IsFirstByte, is_byte}
 use Rattle.octets.specs.Search.{up_to}
@@ -65,3 +66,40 @@ first_byte c xs None n = sym (absent c xs (omega (arith, up_to_end c xs (λ j l 
 first_byte c xs (Some k) h =
     let u = up_to_at c xs k h.0.high h.1 (λ j l z. h.0.before j (omega arith) l z) in
     ap Some (sym u) ∙ sym (there c xs (omega (arith, u, h.0.high)))
+
+-- the first c of two lists joined
+up_to_front : (c : ℕ) (xs ys : List ℕ) → up_to c xs < length xs → up_to c (xs ++ ys) ≡ up_to c xs
+up_to_front c [] ys l = absurd (omega arith)
+up_to_front c (x ∷ xs) ys l = turn (x == c) _ _ _ (up_to_front c xs ys) l
+  where
+    turn : (b : Bool) (m n k : ℕ) → (n < k → m ≡ n) → cond b 0 (suc n) < suc k → cond b 0 (suc m) ≡ cond b 0 (suc n)
+    turn true m n k f l = refl
+    turn false m n k f l = ap suc (f (omega arith))
+
+up_to_back : (c : ℕ) (xs ys : List ℕ) → up_to c xs ≡ length xs → up_to c (xs ++ ys) ≡ length xs + up_to c ys
+up_to_back c [] ys e = omega arith
+up_to_back c (x ∷ xs) ys e = turn (x == c) _ _ _ _ (up_to_back c xs ys) e
+  where
+    turn : (b : Bool) (m n k j : ℕ) → (n ≡ k → m ≡ k + j) → cond b 0 (suc n) ≡ suc k → cond b 0 (suc m) ≡ suc k + j
+    turn true m n k j f e = absurd (omega arith)
+    turn false m n k j f e = omega (arith, f (omega arith))
+
+module _ (c : ℕ) (xs ys : List ℕ) where
+  pub first_in_front : (i : ℕ) → Some i ≡ position (λ x. x == c) xs → Some i ≡ position (λ x. x == c) (xs ++ ys)
+  first_in_front i e =
+      let f = found_at c xs i e in
+      let u : up_to c (xs ++ ys) ≡ i = up_to_front c xs ys (omega arith) ∙ f.0 in
+      sym (there c (xs ++ ys) (omega (arith, length-append xs ys)) ∙ ap Some u)
+
+  module _ (e : None ≡ position (λ x. x == c) xs) where
+    behind : up_to c (xs ++ ys) ≡ length xs + up_to c ys
+    behind = up_to_back c xs ys (found_none c xs e)
+
+    pub first_in_back : (i : ℕ) → Some i ≡ position (λ x. x == c) ys → Some (length xs + i) ≡ position (λ x. x == c) (xs ++ ys)
+    first_in_back i g =
+        let f = found_at c ys i g in
+        let u : up_to c (xs ++ ys) ≡ length xs + i = omega (arith, behind, f.0) in
+        sym (there c (xs ++ ys) (omega (arith, length-append xs ys, f.1)) ∙ ap Some u)
+
+    pub first_in_none : None ≡ position (λ x. x == c) ys → None ≡ position (λ x. x == c) (xs ++ ys)
+    first_in_none g = sym (absent c (xs ++ ys) (omega (arith, behind, found_none c ys g, length-append xs ys)))
