@@ -22,7 +22,7 @@ use std::collections::HashMap;
 
 // hash BYTES
 pub fn hash(message: &[u8], answer: &mut Answer) -> Result<(), AllocError>
-    ensures { OnOk result (answer.new ≡ answer.old ++ hashed message.now) }
+    ensures { OnOk result (answer.new.text ≡ answer.old.text ++ hashed message.now) }
 {
     answer.text("sha256 ")?;
     answer.digits_line(&sha256::digest(message))
@@ -30,7 +30,7 @@ pub fn hash(message: &[u8], answer: &mut Answer) -> Result<(), AllocError>
 
 // check KEYTYPE PUBLIC BYTES SIGNATURE
 pub fn check(call: &CheckCall, answer: &mut Answer) -> Result<(), AllocError>
-    ensures { OnOk result (answer.new ≡ answer.old ++ checked call.now.keytype.items call.now.public.items call.now.message.items call.now.signature.items) }
+    ensures { OnOk result (answer.new.text ≡ answer.old.text ++ checked call.now.keytype.items call.now.public.items call.now.message.items call.now.signature.items) }
 {
     let keytype = call.keytype.as_slice();
     let public = call.public.as_slice();
@@ -66,7 +66,7 @@ impl Keys {
     // key ID KEYTYPE TYPE I SEED
     pub fn make(&mut self, call: KeyCall, answer: &mut Answer) -> Result<(), Trouble>
         // the key whose public key is told is the one that is kept
-        ensures { OnOk result ((kept : Box HashBasedSecret Global) × Updates ⟦<Vec<u8> as PartialEq>⟧.eq self.old.secrets self.new.secrets call.id (Some kept) × (answer.new ≡ answer.old ++ made (word_of kept.value) (public_of kept.value))) }
+        ensures { OnOk result ((kept : Box HashBasedSecret Global) × Updates ⟦<Vec<u8> as PartialEq>⟧.eq self.old.secrets self.new.secrets call.id (Some kept) × (answer.new.text ≡ answer.old.text ++ made (word_of kept.value) (public_of kept.value))) }
     {
         let secret = Box::new(self.heap, secret_of(&call)?)?;
         tell(&secret, answer)?;
@@ -99,7 +99,7 @@ impl Keys {
 
 // The keytype and the public key of a secret.
 fn tell(secret: &HashBasedSecret, answer: &mut Answer) -> Result<(), AllocError>
-    ensures { OnOk result (answer.new ≡ answer.old ++ made (word_of secret.now) (public_of secret.now)) }
+    ensures { OnOk result (answer.new.text ≡ answer.old.text ++ made (word_of secret.now) (public_of secret.now)) }
 {
     answer.text("public ")?;
     answer.raw(HashBased.keytype_of(secret))?;

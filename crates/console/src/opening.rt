@@ -18,7 +18,7 @@ pub enum Opening {
 
 // Makes memory ready, and tries a text in it, so that a refusal leaves the open store as it is.
 pub fn open(call: OpenCall, answer: &mut Answer) -> Result<Option<Opening>, AllocError>
-    ensures { IfOk result (λ opening. OnSome opening (answer.new ≡ answer.old ++ line_of (codes "opened"))) }
+    ensures { IfOk result (λ opening. OnSome opening (answer.new.text ≡ answer.old.text ++ line_of (codes "opened"))) }
 {
     let mut opening = memory(answer.heap(), call)?;
     if let Opening::Line { buffer, used } = &mut opening

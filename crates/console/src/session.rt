@@ -81,7 +81,7 @@ impl<'a> Session<'a> {
                 None
             }
         };
-        self.rt.stdout().write_all(answer.finish())?;
+        self.rt.stdout().write_all(answer.finish()?)?;
         Ok(opened)
     }
 

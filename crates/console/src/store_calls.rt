@@ -18,7 +18,7 @@ pub fn answer_store<S: Store + Listing>(
     call: StoreCall,
     answer: &mut Answer,
 ) -> Result<(), AllocError>
-    ensures replies { Replies (S.Store.meaning store.old) (S.Store.room store.old) call answer.old result answer.new }
+    ensures replies { Replies (S.Store.meaning store.old) (S.Store.room store.old) call answer.old.text result answer.new.text }
     ensures meaning { S.Store.meaning store.new ≡ afterwards (S.Store.meaning store.old) (S.Store.room store.old) call }
 {
     match call {
@@ -41,7 +41,7 @@ fn file<S: Store>(
     body: &[u8],
     answer: &mut Answer,
 ) -> Result<(), AllocError>
-    ensures answer { OnOk result (answer.new ≡ answer.old ++ filed (not_filed (S.Store.meaning store.old) (S.Store.room store.old) name.now body.now)) }
+    ensures answer { OnOk result (answer.new.text ≡ answer.old.text ++ filed (not_filed (S.Store.meaning store.old) (S.Store.room store.old) name.now body.now)) }
     ensures meaning { S.Store.meaning store.new ≡ (if is_some (not_filed (S.Store.meaning store.old) (S.Store.room store.old) name.now body.now) then S.Store.meaning store.old else with (S.Store.meaning store.old) name.now body.now) }
 {
     match store.file(name, body) {
@@ -57,7 +57,7 @@ fn get<S: Store>(
     space: usize,
     answer: &mut Answer,
 ) -> Result<(), AllocError>
-    ensures { OnOk result (answer.new ≡ answer.old ++ got (body_of (S.Store.meaning store.now name.now)) (get_refusal space name.now (is_some (S.Store.meaning store.now name.now)))) }
+    ensures { OnOk result (answer.new.text ≡ answer.old.text ++ got (body_of (S.Store.meaning store.now name.now)) (get_refusal space name.now (is_some (S.Store.meaning store.now name.now)))) }
 {
     let mut buffer = vec![in answer.heap(); 0; space]?;
     show_body(store, name, buffer.as_mut_slice(), answer)
@@ -69,7 +69,7 @@ fn show_body<S: Store>(
     buffer: &mut [u8],
     answer: &mut Answer,
 ) -> Result<(), AllocError>
-    ensures { OnOk result (answer.new ≡ answer.old ++ got (body_of (S.Store.meaning store.now name.now)) (get_refusal (length buffer.old) name.now (is_some (S.Store.meaning store.now name.now)))) }
+    ensures { OnOk result (answer.new.text ≡ answer.old.text ++ got (body_of (S.Store.meaning store.now name.now)) (get_refusal (length buffer.old) name.now (is_some (S.Store.meaning store.now name.now)))) }
 {
     match store.get(name, buffer) {
         Ok(len) => {

@@ -19,12 +19,13 @@ use Rattle.language.specs.Names.{KindNamed, VerbNamed, barred}
 use Rattle.language.specs.Spelling.{IsSpelling}
 use Rattle.language.specs.Wording.{words_in, ReadsWord, IsNumber}
 
--- what a word has to stand for: some bytes, a number, or a kind of store; the last one may be no word where the bytes are none
+-- what a word has to stand for: some bytes, a number, or a kind of store; the last one may be no word where the bytes are none, and has to be none where a number is not given
 pub data Argument : Type 0 where
   bytes : Vec ℕ Global → Argument
   number : ℕ → Argument
   kind_of_store : Kind → Argument
   bytes_if_any : Vec ℕ Global → Argument
+  nothing_more : Argument
 
 -- the first of the words stands for the argument
 abbrev pub Stands : Argument → List (List ℕ) → Type 0
@@ -33,6 +34,7 @@ Stands (number n) ws = ReadsWord (λ m. m) ws IsNumber (Ok n)
 Stands (kind_of_store k) ws = ReadsWord (λ m. m) ws KindNamed (Ok k)
 Stands (bytes_if_any b) [] = vec_items b ≡ []
 Stands (bytes_if_any b) (w ∷ ws) = ReadsWord Script (w ∷ ws) IsSpelling (Ok b)
+Stands nothing_more ws = ws ≡ []
 
 -- the words stand for the arguments, one by one, and then come the rest
 abbrev pub StandsFor : List Argument → List (List ℕ) → List (List ℕ) → Type 0
@@ -45,7 +47,7 @@ open_arguments (Table rows count) = kind_of_store kind.Table ∷ number rows ∷
 
 abbrev pub number_if_any : Option ℕ → List Argument
 number_if_any (Some n) = number n ∷ []
-number_if_any None = []
+number_if_any None = nothing_more ∷ []
 
 abbrev pub store_verb : StoreCall → Verb
 store_verb (File name body) = verb.File

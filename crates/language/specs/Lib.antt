@@ -6,4 +6,5 @@ pub mod Names
 pub mod Messages
 pub mod Wording
 pub mod Calls
+pub mod Written
 pub mod Writing

@@ -127,6 +127,7 @@ impl<'a> Words<'a> {
 }
 
 // The text up to the first space, and the text behind it, if there is one.
+#[tactic(auto, using(crate::proofs::Worded::words_whole, crate::proofs::Worded::words_parted))]
 fn parted(text: &[u8]) -> (&[u8], Option<&[u8]>)
     ensures { words_in text.now ≡ result.0.now ∷ words_of result.1 }
 {

@@ -24,7 +24,7 @@ mod tests {
         answer.digits_line(b"a")?;
         answer.trouble(3, Trouble::Script(Mistake::NoStore))?;
         assert_eq!(rt;
-            answer.finish(),
+            answer.finish()?,
             b"got 2 x:00ff\nyes\nrefused 31\nend\n61\nline 3: no store is open\n".as_slice()
         );
         Ok(())

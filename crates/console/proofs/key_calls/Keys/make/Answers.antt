@@ -5,5 +5,5 @@ use Rattle.console.proofs.key_calls.Keys.make.Goals as goal
 
 pub returns : goal.returns
 returns c =
-    let told = subst (λ s. c.tell.new.answer ≡ c.args.answer.now ++ made (word_of s) (public_of s)) c.deref.ensures c.in_ok-tell.ensures in
+    let told = subst (λ s. c.tell.new.answer.text ≡ c.args.answer.now.text ++ made (word_of s) (public_of s)) c.deref.ensures c.in_ok-tell.ensures in
     (c.in_ok-secret.secret, c.in_ok-insert.ensures.updates, told)
