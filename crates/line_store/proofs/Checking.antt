@@ -60,9 +60,6 @@ pub record Read (text rest : List ℕ) : Type 0 where
   pub is : text ≡ front ++ rest
   pub told : Told front
 
-pub unread : (text : List ℕ) → Read text text
-unread text = record { front = []; is = refl; told = ([], (refl, refl)) }
-
 module _ (text rest : List ℕ) (r : Read text rest) where
   pub rest_within : length rest ≤ length text
   rest_within = omega (arith, ap length r.is, length-append r.front rest)

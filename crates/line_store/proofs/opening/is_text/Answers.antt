@@ -2,7 +2,7 @@ use Rattle.std.proofs.Common.{false, is_some, sym, refl, rules}
 use Rattle.std.proofs.lemmas.Bool.{both_ways}
 use Rattle.store.specs.Entries.{look_up}
 use Rattle.line_store.proofs.Finding.{some_copied}
-use Rattle.line_store.proofs.Checking.{unread, not_spelt, not_twice, read_more, told_whole, nothing_left}
+use Rattle.line_store.proofs.Checking.{not_spelt, not_twice, read_more, told_whole, nothing_left}
 use Rattle.line_store.proofs.opening.is_text.Goals.{then-not-is_entry-via-then-not-is_entry, then-not-is_entry-via-else-not-is_entry+then-is_some}
 use Rattle.line_store.proofs.opening.is_text.Goals as goal
 
