@@ -1,8 +1,13 @@
 -- What the program answers.
-use Rattle.std.specs.Prelude.{◌≡◌, ℕ, Bool, cond, List, ◌++◌, length, is_some, Some, None, vec_items, codes, decimal, Option, Result, OnOk}
+use Rattle.std.specs.Prelude.{◌≡◌, ℕ, Bool, false, cond, ◌&&◌, ◌||◌, ◌==◌, ⊤, List, ◌++◌, length, is_some, Some, None, vec_items, codes, decimal, Option, Result, OnOk}
+use Rattle.std.specs.Str.{bytes_eq}
 use Rattle.octets.specs.Hex.{hex}
 use Rattle.language.specs.Writing.{line_of, yes_or_no, refusal, coded}
 use Rattle.std.specs.declared.alloc.AllocError.{AllocError}
+use Rattle.language.specs.declared.call.KeyCall.{KeyCall}
+use Rattle.language.specs.declared.mistake.Mistake.TheVariants.{NotAKey, UnknownKeytype}
+use Rattle.language.specs.declared.mistake.Trouble.{Trouble}
+use Rattle.language.specs.declared.mistake.Trouble.TheVariants.{Script, Memory}
 use Rattle.language.specs.declared.call.StoreCall.{StoreCall}
 use Rattle.language.specs.declared.call.StoreCall.TheVariants.{File, Get, Has, Fits, Entries}
 use Rattle.store.specs.declared.refusal.GetRefusal.{GetRefusal}
@@ -41,6 +46,17 @@ checked w key m sig = verdict (is_formed w key) (is_held w key m sig)
 -- key
 abbrev pub made : List ℕ → List ℕ → List ℕ
 made w key = codes "public " ++ (w ++ (codes " " ++ coded key))
+
+-- the types of key that there are
+abbrev pub is_key_type : List ℕ → ℕ → Bool
+is_key_type w n = (bytes_eq w (codes "lmots") && n == 4) || (bytes_eq w (codes "lms") && (n == 5 || n == 6))
+
+-- a call makes no key, for this reason: its identifier or its seed has another length, or it names no type of key
+abbrev pub MakesNoKey : KeyCall → Trouble → Type 0
+MakesNoKey call (Script NotAKey) = ((length (vec_items call.identifier) ≡ 16) × (length (vec_items call.seed) ≡ 32)) → ⊥
+MakesNoKey call (Script UnknownKeytype) = is_key_type (vec_items call.keytype) call.number ≡ false
+MakesNoKey call (Script m) = ⊥
+MakesNoKey call (Memory e) = ⊤
 
 -- sign
 abbrev pub signed : List ℕ → Option SignRefusal → List ℕ

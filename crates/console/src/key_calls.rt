@@ -1,11 +1,13 @@
 // The calls of hashes, keys and signatures.
-ghost use Rattle.std.specs.Prelude.{◌≡◌, ◌++◌, OnOk, Some};
+ghost use Rattle.std.specs.Prelude.{◌≡◌, ◌++◌, ◌&&◌, ◌||◌, ◌==◌, codes, is_some, IfErr, OnOk, Some};
+ghost use Rattle.std.specs.Str.{bytes_eq};
 ghost use Rattle.std.specs.HashMap.{Updates};
 ghost use Rattle.std.specs.declared.boxed.Box.{Box};
 ghost use Rattle.std.specs.declared.alloc.Global.{Global};
 ghost use Rattle.hash_based.specs.Joined.{word_of, public_of};
 ghost use Rattle.hash_based.specs.declared.secret.HashBasedSecret.{HashBasedSecret};
-ghost use Rattle.console.specs.Answers.{hashed, checked, made};
+ghost use Rattle.language.specs.declared.mistake.Trouble.TheVariants.{Script};
+ghost use Rattle.console.specs.Answers.{hashed, checked, made, MakesNoKey};
 
 use hash_based::HashBased;
 use hash_based::secret::HashBasedSecret;
@@ -66,7 +68,8 @@ impl Keys {
     // key ID KEYTYPE TYPE I SEED
     pub fn make(&mut self, call: KeyCall, answer: &mut Answer) -> Result<(), Trouble>
         // the key whose public key is told is the one that is kept
-        ensures { OnOk result ((kept : Box HashBasedSecret Global) × Updates ⟦<Vec<u8> as PartialEq>⟧.eq self.old.secrets self.new.secrets call.id (Some kept) × (answer.new.text ≡ answer.old.text ++ made (word_of kept.value) (public_of kept.value))) }
+        ensures kept { OnOk result ((kept : Box HashBasedSecret Global) × Updates ⟦<Vec<u8> as PartialEq>⟧.eq self.old.secrets self.new.secrets call.id (Some kept) × (answer.new.text ≡ answer.old.text ++ made (word_of kept.value) (public_of kept.value))) }
+        ensures none { IfErr result (MakesNoKey call) }
     {
         let secret = Box::new(self.heap, secret_of(&call)?)?;
         tell(&secret, answer)?;
@@ -108,7 +111,9 @@ fn tell(secret: &HashBasedSecret, answer: &mut Answer) -> Result<(), AllocError>
 }
 
 // The secret of a keytype, the number of a type, an identifier and a seed.
-fn secret_of(call: &KeyCall) -> Result<HashBasedSecret, Mistake> {
+fn secret_of(call: &KeyCall) -> Result<HashBasedSecret, Mistake>
+    ensures { IfErr result (λ m. MakesNoKey call.now (Script m)) }
+{
     let (Some((id, [])), Some((seed, []))) = (
         call.identifier.as_slice().split_first_chunk::<16>(),
         call.seed.as_slice().split_first_chunk::<32>(),
@@ -123,7 +128,9 @@ fn secret_of(call: &KeyCall) -> Result<HashBasedSecret, Mistake> {
     Ok(HashBasedSecret::Tree(TreeSecret::new(kind, id, seed)))
 }
 
-fn tree_type(keytype: &[u8], number: usize) -> Option<LmsType> {
+fn tree_type(keytype: &[u8], number: usize) -> Option<LmsType>
+    ensures { is_some result ≡ (bytes_eq keytype.now (codes "lms") && (number == 5 || number == 6)) }
+{
     if keytype == lms::many_time::KEYTYPE {
         LmsType::try_from(u32::try_from(number).ok()?).ok()
     } else {
